@@ -1,0 +1,6 @@
+pub mod Cone
+pub mod Distance
+pub mod Heights
+pub mod Meet
+pub mod Plane
+pub mod Product

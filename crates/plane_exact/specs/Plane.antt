@@ -1,0 +1,38 @@
+-- Points of the plane: grid points, rational points, and the points of a segment.
+use Rattle.std.specs.Prelude.{◌≡◌, ℤ, pos, negsuc, ◌+ℤ◌, ◌-ℤ◌, ◌*ℤ◌, ◌≤ℤ◌}
+
+-- a point of the grid, in grid units
+pub record GridPoint : Type 0 where
+  pub x : ℤ
+  pub y : ℤ
+
+-- from -32768 to 32767
+pub record IsCoordinate (z : ℤ) : Type 0 where
+  pub low : negsuc 32767 ≤ℤ z
+  pub high : z ≤ℤ pos 32767
+
+-- both numbers are coordinates
+pub record IsOnGrid (x y : ℤ) : Type 0 where
+  pub across : IsCoordinate x
+  pub up : IsCoordinate y
+
+-- the point (x / over, y / over)
+pub record RationalPoint : Type 0 where
+  pub x : ℤ
+  pub y : ℤ
+  pub over : ℤ
+  pub positive : pos 1 ≤ℤ over
+
+-- a grid point as a rational point
+abbrev pub rational : GridPoint → RationalPoint
+rational p = record { x = p.x; y = p.y; over = pos 1; positive = record { le = tt } }
+
+-- w is a + (k / n) (b - a) for some k from 0 to n: a point of the segment from a to b, its ends among them
+pub record IsBetween (a b : GridPoint) (w : RationalPoint) : Type 0 where
+  pub k : ℤ
+  pub n : ℤ
+  pub start : pos 0 ≤ℤ k
+  pub finish : k ≤ℤ n
+  pub some : pos 1 ≤ℤ n
+  pub across : n *ℤ w.x ≡ w.over *ℤ (n *ℤ a.x +ℤ k *ℤ (b.x -ℤ a.x))
+  pub up : n *ℤ w.y ≡ w.over *ℤ (n *ℤ a.y +ℤ k *ℤ (b.y -ℤ a.y))

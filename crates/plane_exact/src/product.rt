@@ -1,0 +1,56 @@
+// The cross and the dot product of the ways from a grid point to two others.
+ghost use Rattle.std.specs.Prelude.{◌≡◌, ◌+ℤ◌, ◌-ℤ◌, ◌*ℤ◌};
+ghost use Rattle.plane_exact.specs.Product.{cross_of, dot_of, IsDifference, IsProduct};
+
+use crate::point::Point;
+
+// The way from one grid point to another.
+#[derive(Clone, Copy)]
+struct Offset {
+    x: i64,
+    y: i64,
+    ghost across: { IsDifference x },
+    ghost up: { IsDifference y },
+}
+
+fn between(from: Point, to: Point) -> Offset
+    ensures across { result.x ≡ to.x -ℤ from.x }
+    ensures up { result.y ≡ to.y -ℤ from.y }
+{
+    Offset {
+        x: to.x() as i64 - from.x() as i64,
+        y: to.y() as i64 - from.y() as i64,
+    }
+}
+
+impl Offset {
+    fn cross(self, other: Offset) -> i64
+        ensures value { result ≡ self.x *ℤ other.y -ℤ self.y *ℤ other.x }
+        ensures range { IsProduct result }
+    {
+        self.x * other.y - self.y * other.x
+    }
+
+    fn dot(self, other: Offset) -> i64
+        ensures value { result ≡ self.x *ℤ other.x +ℤ self.y *ℤ other.y }
+        ensures range { IsProduct result }
+    {
+        self.x * other.x + self.y * other.y
+    }
+}
+
+/// The cross product (a - o) × (b - o): above 0 where `b` lies left of the line from `o` through `a`, 0 where it lies on it.
+pub fn cross(o: Point, a: Point, b: Point) -> i64
+    ensures value { result ≡ cross_of o a b }
+    ensures range { IsProduct result }
+{
+    between(o, a).cross(between(o, b))
+}
+
+/// The dot product (a - o) · (b - o): above 0 where the ways from `o` to `a` and to `b` make an angle below a right one.
+pub fn dot(o: Point, a: Point, b: Point) -> i64
+    ensures value { result ≡ dot_of o a b }
+    ensures range { IsProduct result }
+{
+    between(o, a).dot(between(o, b))
+}
