@@ -1,0 +1,5 @@
+pub mod Clear
+pub mod Depth
+pub mod Drawing
+pub mod Inside
+pub mod Removal

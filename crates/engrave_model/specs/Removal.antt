@@ -1,0 +1,46 @@
+-- What a straight move removes at the surface, and when code is safe: no moment removes a point outside the drawing.
+use Rattle.std.specs.Prelude.{ℤ, pos, neg_ℤ, ◌+ℤ◌, ◌-ℤ◌, ◌*ℤ◌, ◌≤ℤ◌, List, All}
+use Rattle.plane_exact.specs.Cone.{Cone}
+use Rattle.plane_exact.specs.Plane.{RationalPoint}
+use Rattle.plane_exact.specs.declared.moves.LineMove.{LineMove}
+use Rattle.plane_exact.specs.declared.moves.Move.{Move}
+use Rattle.plane_exact.specs.declared.point.Seg.{Seg}
+use Rattle.engrave_model.specs.Depth.{IsInDisc}
+use Rattle.engrave_model.specs.Inside.{IsInside}
+
+-- the moment k / n of a move, from 0, its start, to 1, its end
+pub record Moment : Type 0 where
+  pub k : ℤ
+  pub n : ℤ
+  pub start : pos 0 ≤ℤ k
+  pub finish : k ≤ℤ n
+  pub some : pos 1 ≤ℤ n
+
+-- the value at the moment between one at the start and one at the end, times n
+abbrev pub between : Moment → ℤ → ℤ → ℤ
+between s first last = (s.n -ℤ s.k) *ℤ first +ℤ s.k *ℤ last
+
+-- where the tip is at the moment
+abbrev pub place_at : Move → Moment → RationalPoint
+place_at mv s = record {
+  x = between s mv.from.at.x mv.to.at.x;
+  y = between s mv.from.at.y mv.to.at.y;
+  over = s.n;
+  positive = s.some;
+}
+
+-- how deep the tip is below the surface at the moment, times n; negative above it
+abbrev pub depth_at : Move → Moment → ℤ
+depth_at mv s = neg_ℤ (between s mv.from.h mv.to.h)
+
+-- at the moment the tip is below the surface, and w is in the open disc that the bit cuts there
+abbrev pub IsRemoved : Cone → Move → Moment → RationalPoint → Type 0
+IsRemoved cone mv s w = IsInDisc cone (place_at mv s) (depth_at mv s) s.n w
+
+-- no moment removes a point that isn't inside
+abbrev pub IsSafe : List Seg → Cone → Move → Type 0
+IsSafe edges cone mv = (s : Moment) (w : RationalPoint) → IsRemoved cone mv s w → IsInside edges w
+
+-- every move is safe
+abbrev pub IsSafeCode : List Seg → Cone → List LineMove → Type 0
+IsSafeCode edges cone moves = All (λ move. IsSafe edges cone move.mv) moves
