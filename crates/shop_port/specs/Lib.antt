@@ -1,0 +1,6 @@
+pub mod Counts
+pub mod Files
+pub mod Output
+pub mod Loading
+pub mod Sure
+pub mod Memory

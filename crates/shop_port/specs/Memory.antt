@@ -1,0 +1,58 @@
+-- What the depot and the sink in memory keep: their setting, their content and how many calls were made.
+use Rattle.std.specs.Prelude.{ℕ, List, Option, Result, Ok, Err, vec_capacity}
+use Rattle.shop_port.specs.Counts.{one_more}
+use Rattle.shop_port.specs.Files.{files_of}
+use Rattle.shop_port.specs.declared.depot.Failed.{Failed}
+use Rattle.shop_port.specs.declared.depot.Fetch.{Fetch}
+use Rattle.shop_port.specs.declared.depot.Fetch.TheVariants.{Got, Absent}
+use Rattle.shop_port.specs.declared.memory.MemDepot.{MemDepot}
+use Rattle.shop_port.specs.declared.memory.MemSink.{MemSink}
+
+-- the bytes under each name
+abbrev pub files_in : MemDepot → List ℕ → Option (List ℕ)
+files_in depot = files_of depot.files
+
+-- the most bytes of one read
+abbrev pub most_per_read : MemDepot → ℕ
+most_per_read depot = depot.per_call
+
+-- the numbers of the reads that fail, from 1 on
+abbrev pub failing_reads : MemDepot → List ℕ
+failing_reads depot = depot.schedule.failing.items
+
+abbrev pub reads_made : MemDepot → ℕ
+reads_made depot = depot.schedule.calls
+
+abbrev pub reads_failed : MemDepot → ℕ
+reads_failed depot = depot.schedule.faults
+
+abbrev pub names_missed : MemDepot → ℕ
+names_missed depot = depot.misses
+
+-- one more where the name was absent
+abbrev pub missed_after : Result Fetch Failed → ℕ → ℕ
+missed_after (Ok Absent) missed = one_more missed
+missed_after (Ok (Got n)) missed = missed
+missed_after (Err failed) missed = missed
+
+-- the bytes taken so far
+abbrev pub taken_by : MemSink → List ℕ
+taken_by sink = sink.bytes.items
+
+-- how many bytes it can take before it needs memory
+abbrev pub capacity_of : MemSink → ℕ
+capacity_of sink = vec_capacity sink.bytes
+
+-- the most bytes of one write
+abbrev pub most_per_write : MemSink → ℕ
+most_per_write sink = sink.per_call
+
+-- the numbers of the writes that fail, from 1 on
+abbrev pub failing_writes : MemSink → List ℕ
+failing_writes sink = sink.schedule.failing.items
+
+abbrev pub writes_made : MemSink → ℕ
+writes_made sink = sink.schedule.calls
+
+abbrev pub writes_failed : MemSink → ℕ
+writes_failed sink = sink.schedule.faults

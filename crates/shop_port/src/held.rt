@@ -1,0 +1,41 @@
+// Reads of files that lie in memory.
+ghost use Rattle.std.specs.Prelude.{◌≡◌, ◌≤◌, ◌<◌, ◌-◌, min, length};
+ghost use Rattle.shop_port.specs.Files.{HasPiece, IsPieceOf, IfGot, files_of};
+
+use crate::Fetch;
+use std::collections::BTreeMap;
+
+/// Copies bytes of a named file to the front of the buffer, `per_call` of them at most.
+pub fn read_held(
+    files: &BTreeMap<String, Vec<u8>>,
+    per_call: usize,
+    name: &str,
+    at: u64,
+    into: &mut [u8],
+) -> Fetch
+    requires { 0 < per_call }
+    ensures told { IsPieceOf (files_of files.now name.now) at into.new result }
+    ensures within { IfGot result (λ n. n ≤ length into.new) }
+    ensures few { IfGot result (λ n. n ≤ per_call) }
+{
+    match files.get(name) {
+        Some(file) => Fetch::Got(copy_piece(file, per_call, at, into)),
+        None => Fetch::Absent,
+    }
+}
+
+/// Copies bytes of a file to the front of the buffer, as many as it has from the offset on, as the
+/// buffer takes and as one call gives. Says how many.
+fn copy_piece(file: &[u8], per_call: usize, at: u64, into: &mut [u8]) -> usize
+    requires { 0 < per_call }
+    ensures piece { HasPiece file.now at result into.new }
+    ensures count { result ≡ min (min per_call (length into.new)) (length file.now - at) }
+{
+    if at >= file.len() as u64 {
+        return 0;
+    }
+    let rest = &file[at as usize..];
+    let n = per_call.min(into.len()).min(rest.len());
+    into[..n].copy_from_slice(&rest[..n]);
+    n
+}

@@ -1,0 +1,23 @@
+// The outside as a program sees it: files that are read, an output that is written, and fakes of both.
+#![tactic(auto)]
+
+mod depot;
+mod held;
+mod host;
+mod loading;
+mod memory;
+mod schedule;
+mod sending;
+mod sink;
+mod sure;
+
+pub use depot::{Depot, Failed, Fetch};
+pub use host::{HostDepot, HostSink};
+pub use loading::{LoadFault, load};
+pub use memory::{MemDepot, MemSink};
+pub use sending::{WriteFault, send};
+pub use sink::Sink;
+pub use sure::{SureDepot, SureSink};
+
+#[cfg(test)]
+mod tests;
