@@ -1,0 +1,5 @@
+pub mod Cuts
+pub mod Digits
+pub mod Powers
+pub mod Runs
+pub mod Sides

@@ -1,0 +1,9 @@
+use Rattle.std.proofs.Common.{◌≡◌, length, filter}
+use Rattle.grid_num.specs.Cutting.{is_word}
+use Rattle.grid_num.proofs.pieces.WordsIterator.next.Given as goal
+
+abbrev pub invariant-loop-piece : goal.invariant-loop-piece
+invariant-loop-piece l = filter is_word l.self-inside.pieces ≡ l.fn.self
+
+abbrev pub decreases-loop-piece : goal.decreases-loop-piece
+decreases-loop-piece l = length l.self-inside.pieces

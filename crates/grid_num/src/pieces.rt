@@ -1,0 +1,236 @@
+// Cuts a text into lines and words, each with its place. No byte is looked at more than a few times.
+ghost use Rattle.std.specs.Prelude.{◌≡◌, ◌+◌, ◌<◌, ◌^◌, ◌∷◌, IfSome, length};
+
+use std::marker::Model;
+
+/// What stands between two pieces of a text.
+#[derive(Clone, Copy, Debug, PartialEq, Eq)]
+pub enum Separator {
+    /// This byte.
+    Byte(u8),
+    /// A space or a tab.
+    Blank,
+}
+
+impl Separator {
+    ghost use Rattle.std.specs.List.{position};
+    ghost use Rattle.grid_num.specs.Cutting.{separates};
+
+    /// Whether the byte separates.
+    pub fn separates(self, byte: u8) -> bool
+        ensures { result ≡ separates self byte }
+    {
+        match self {
+            Separator::Byte(separator) => byte == separator,
+            Separator::Blank => byte == b' ' || byte == b'\t',
+        }
+    }
+
+    /// The place, from 0, of the first byte of the text that separates.
+    pub fn first_in(self, text: &[u8]) -> Option<usize>
+        ensures value { result ≡ position (separates self) text.now }
+        ensures within { IfSome result (λ place. place < length text.now) }
+    {
+        text.iter().position(|byte| self.separates(*byte))
+    }
+}
+
+/// Bytes of a text, and the place of the first of them in it, from 0.
+#[derive(Clone, Copy, Debug)]
+pub struct Piece<'a> {
+    pub at: u32,
+    pub bytes: &'a [u8],
+    pub ghost fits: { at + length bytes.now < 2 ^ 32 },
+}
+
+impl<'a> Piece<'a> {
+    ghost use Rattle.grid_num.specs.Cutting.{piece_of, pieces_left, separates, trimmed};
+    ghost use Rattle.grid_num.specs.Pieces.{pieces};
+
+    // What stands before the first separator, and what stands after it, if there is one.
+    fn cut(self, separator: Separator) -> (Piece<'a>, Option<Piece<'a>>)
+        ensures { pieces (separates separator) self.entry.at self.entry.bytes.now ≡ piece_of result.0 ∷ pieces_left separator result.1 }
+    {
+        let Some(end) = separator.first_in(self.bytes) else {
+            return (self, None);
+        };
+        let first = Piece {
+            at: self.at,
+            bytes: &self.bytes[..end],
+        };
+        let rest = Piece {
+            at: self.at + end as u32 + 1,
+            bytes: &self.bytes[end + 1..],
+        };
+        (first, Some(rest))
+    }
+
+    // Without a carriage return at its very end.
+    fn trimmed(self) -> Piece<'a>
+        ensures { piece_of result ≡ trimmed (piece_of self.entry) }
+    {
+        let Some((last, line)) = self.bytes.split_last() else {
+            return self;
+        };
+        if *last != b'\r' {
+            return self;
+        }
+        Piece {
+            at: self.at,
+            bytes: line,
+        }
+    }
+}
+
+/// Gives the pieces of a text between its separators, the first and the last among them, in order.
+#[derive(Debug, Drop)]
+pub struct Pieces<'a> {
+    separator: Separator,
+    rest: Option<Piece<'a>>,
+}
+
+impl<'a> Model for Pieces<'a> {
+    ghost use Rattle.std.specs.Prelude.{List};
+    ghost use Rattle.grid_num.specs.Pieces.{Piece as TextPiece};
+    ghost use Rattle.grid_num.specs.Cutting.{pieces_left};
+
+    ghost Value = { List TextPiece };
+
+    ghost view = { λ s. pieces_left s.separator s.rest };
+}
+
+impl<'a> Pieces<'a> {
+    ghost use Rattle.grid_num.specs.Cutting.{separates};
+    ghost use Rattle.grid_num.specs.Pieces.{pieces};
+
+    /// The pieces of a text of fewer than 2^32 bytes.
+    pub fn of(text: &'a [u8], separator: Separator) -> Pieces<'a>
+        requires { length text.now < 2 ^ 32 }
+        ensures { result ≡ pieces (separates separator) 0 text.now }
+    {
+        Pieces::of_piece(Piece { at: 0, bytes: text }, separator)
+    }
+
+    /// The pieces of a piece, with their places in the text that it stands in.
+    pub fn of_piece(piece: Piece<'a>, separator: Separator) -> Pieces<'a>
+        ensures { result ≡ pieces (separates separator) piece.entry.at piece.entry.bytes.now }
+    {
+        Pieces {
+            separator,
+            rest: Some(piece),
+        }
+    }
+}
+
+impl<'a> Iterator for Pieces<'a> {
+    ghost use Rattle.std.specs.Iterator.{YieldsFirstBy, item_count};
+    ghost use Rattle.grid_num.specs.Cutting.{piece_of};
+
+    type Item = Piece<'a>;
+
+    ghost next_gives = { YieldsFirstBy piece_of (λ left. left) };
+
+    ghost remaining = { item_count (λ left. left) };
+
+    fn next(&mut self) -> Option<Piece<'a>> {
+        let (first, rest) = self.rest?.cut(self.separator);
+        self.rest = rest;
+        Some(first)
+    }
+}
+
+/// Gives the lines of a text in order. They end with a line feed, which the last one may lack; neither it nor a
+/// carriage return before it, or at the end of the text, is part of the line.
+#[derive(Debug, Drop)]
+pub struct Lines<'a> {
+    lines: Pieces<'a>,
+}
+
+impl<'a> Model for Lines<'a> {
+    ghost use Rattle.std.specs.Prelude.{List, map};
+    ghost use Rattle.grid_num.specs.Pieces.{Piece as TextPiece};
+    ghost use Rattle.grid_num.specs.Cutting.{trimmed};
+
+    ghost Value = { List TextPiece };
+
+    ghost view = { λ s. map trimmed s.lines };
+}
+
+impl<'a> Lines<'a> {
+    ghost use Rattle.grid_num.specs.Pieces.{lines_of};
+
+    /// The lines of a text of fewer than 2^32 bytes.
+    pub fn of(text: &'a [u8]) -> Lines<'a>
+        requires { length text.now < 2 ^ 32 }
+        ensures { result ≡ lines_of text.now }
+    {
+        Lines {
+            lines: Pieces::of(text, Separator::Byte(b'\n')),
+        }
+    }
+}
+
+impl<'a> Iterator for Lines<'a> {
+    ghost use Rattle.std.specs.Iterator.{YieldsFirstBy, item_count};
+    ghost use Rattle.grid_num.specs.Cutting.{piece_of};
+
+    type Item = Piece<'a>;
+
+    ghost next_gives = { YieldsFirstBy piece_of (λ left. left) };
+
+    ghost remaining = { item_count (λ left. left) };
+
+    fn next(&mut self) -> Option<Piece<'a>> {
+        Some(self.lines.next()?.trimmed())
+    }
+}
+
+/// Gives the words of a line, between its blanks, in order.
+#[derive(Debug, Drop)]
+pub struct Words<'a> {
+    pieces: Pieces<'a>,
+}
+
+impl<'a> Model for Words<'a> {
+    ghost use Rattle.std.specs.Prelude.{List, filter};
+    ghost use Rattle.grid_num.specs.Pieces.{Piece as TextPiece};
+    ghost use Rattle.grid_num.specs.Cutting.{is_word};
+
+    ghost Value = { List TextPiece };
+
+    ghost view = { λ s. filter is_word s.pieces };
+}
+
+impl<'a> Words<'a> {
+    ghost use Rattle.grid_num.specs.Cutting.{piece_of};
+    ghost use Rattle.grid_num.specs.Pieces.{words_of};
+
+    /// The words of a line.
+    pub fn of(line: Piece<'a>) -> Words<'a>
+        ensures { result ≡ words_of (piece_of line.entry) }
+    {
+        Words {
+            pieces: Pieces::of_piece(line, Separator::Blank),
+        }
+    }
+}
+
+impl<'a> Iterator for Words<'a> {
+    ghost use Rattle.std.specs.Iterator.{YieldsFirstBy, item_count};
+    ghost use Rattle.grid_num.specs.Cutting.{piece_of};
+
+    type Item = Piece<'a>;
+
+    ghost next_gives = { YieldsFirstBy piece_of (λ left. left) };
+
+    ghost remaining = { item_count (λ left. left) };
+
+    fn next(&mut self) -> Option<Piece<'a>> {
+        while let Some(piece) = self.pieces.next() {
+            if !piece.bytes.is_empty() {
+                return Some(piece);
+            }
+        }
+        None
+    }
+}
