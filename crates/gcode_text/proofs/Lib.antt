@@ -1,0 +1,3 @@
+pub mod Cutting
+pub mod Outside
+pub mod Steps

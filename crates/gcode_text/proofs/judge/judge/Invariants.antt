@@ -1,0 +1,11 @@
+use Rattle.std.proofs.Common.{◌≡◌, length}
+use Rattle.gcode_text.specs.Line.{line_words}
+use Rattle.gcode_text.specs.Profile.{judge_words, nothing_said}
+use Rattle.gcode_text.proofs.judge.judge.Given as goal
+
+abbrev pub invariant-loop-word : goal.invariant-loop-word
+invariant-loop-word l =
+    judge_words l.units nothing_said (line_words l.text) ≡ judge_words l.units l.said (line_words l.rest)
+
+abbrev pub decreases-loop-word : goal.decreases-loop-word
+decreases-loop-word l = length l.rest

@@ -1,0 +1,6 @@
+pub mod Line
+pub mod Moves
+pub mod Profile
+pub mod Reading
+pub mod Run
+pub mod Words

@@ -1,0 +1,108 @@
+-- The moves of a text: its lines up to the first with M2 or M30, and the first fault where one has a fault.
+use Rattle.std.specs.Prelude.{ℕ, ◌+◌, Bool, false, not, ◌&&◌, ◌||◌, if◌then◌else◌, Option, Some, None, List, [], ◌∷◌, length, is_some, ℤ, pos, int_lt, nat_lt, nat_le, ◌==◌, Result, Ok, Err}
+use Rattle.grid_num.specs.Judging.{and_then}
+use Rattle.grid_num.specs.Pieces.{Piece, lines_of}
+use Rattle.grid_num.specs.declared.units.Units.{Units}
+use Rattle.plane_exact.specs.Heights.{GridPlace}
+use Rattle.plane_exact.specs.declared.moves.LineMove.{LineMove}
+use Rattle.gcode_text.specs.Line.{outside_comments, line_words}
+use Rattle.gcode_text.specs.Profile.{nothing_said, judge_words}
+use Rattle.gcode_text.specs.declared.said.Said.{Said}
+use Rattle.gcode_text.specs.declared.modal.Position.{Position}
+use Rattle.gcode_text.specs.declared.fault.CodeFault.{CodeFault}
+use Rattle.gcode_text.specs.declared.fault.CodeKind.{CodeKind}
+use Rattle.gcode_text.specs.declared.fault.CodeKind.TheVariants as kind
+
+abbrev pub most_line_bytes : ℕ
+most_line_bytes = 1024
+
+abbrev pub most_moves : ℕ
+most_moves = 8388608
+
+-- "%" (37) alone
+abbrev pub is_percent : List ℕ → Bool
+is_percent [] = false
+is_percent (byte ∷ []) = byte == 37
+is_percent (byte ∷ next ∷ rest) = false
+
+-- what a line says outside its comments; nothing where that is empty or "%" alone
+abbrev pub words_said : Units → Option (List ℕ) → Result Said CodeKind
+words_said units None = Err kind.OpenComment
+words_said units (Some said) = if is_percent said then Ok nothing_said else judge_words units nothing_said (line_words said)
+
+abbrev pub line_said : Units → List ℕ → Result Said CodeKind
+line_said units line =
+    if nat_lt most_line_bytes (length line) then Err kind.LongLine else words_said units (outside_comments false line)
+
+-- no coordinate is known
+abbrev pub nowhere : Position
+nowhere = record { x = None; y = None; z = None }
+
+-- the new value, or else the old one
+abbrev pub latest : Option ℤ → Option ℤ → Option ℤ
+latest old None = old
+latest old (Some new) = Some new
+
+-- after the line's coordinates
+abbrev pub moved : Position → Said → Position
+moved old said = record { x = latest old.x said.x; y = latest old.y said.y; z = latest old.z said.z }
+
+abbrev pub place_from : Option ℤ → Option ℤ → Option ℤ → Option GridPlace
+place_from (Some x) (Some y) (Some z) = Some (record { at = record { x = x; y = y }; h = z })
+place_from _ _ _ = None
+
+-- the place, where every coordinate is known
+abbrev pub place_of : Position → Option GridPlace
+place_of position = place_from position.x position.y position.z
+
+abbrev pub names_place : Said → Bool
+names_place said = is_some said.x || is_some said.y || is_some said.z
+
+-- the move from one place to the other, where both are known
+abbrev pub move_between : ℕ → Option GridPlace → Option GridPlace → Option LineMove
+move_between line (Some from) (Some to) = Some (record { line = line; mv = record { from = from; to = to } })
+move_between line _ _ = None
+
+-- the line's move, if its words name a coordinate and all were known before it
+abbrev pub move_of : ℕ → Position → Said → Option LineMove
+move_of line old said = if names_place said then move_between line (place_of old) (place_of (moved old said)) else None
+
+abbrev pub is_below : Option ℤ → Bool
+is_below None = false
+is_below (Some z) = int_lt z (pos 0)
+
+-- the line's move after so many earlier ones: the bit may not be below the surface before its place was known
+abbrev pub judge_move : ℕ → ℕ → Position → Said → Result (Option LineMove) CodeKind
+judge_move line count old said =
+    if is_below (moved old said).z && not (is_some (place_of old)) then Err kind.Unplaced
+    else if names_place said && is_some (place_of old) && nat_le most_moves count then Err kind.TooMany
+    else Ok (move_of line old said)
+
+-- what a line says, and its move
+abbrev pub judge_line : Units → ℕ → ℕ → Position → List ℕ → Result (Said × Option LineMove) CodeKind
+judge_line units line count old text =
+    and_then (line_said units text) (λ said. and_then (judge_move line count old said) (λ mv. Ok (said, mv)))
+
+-- the move, if there is one, and then those of the later lines
+abbrev pub and_later : Option LineMove → List LineMove → List LineMove
+and_later None later = later
+and_later (Some mv) later = mv ∷ later
+
+-- the fault of a line
+abbrev pub in_line : {A : Type 0} → ℕ → Result A CodeKind → Result A CodeFault
+in_line line (Ok x) = Ok x
+in_line line (Err kind) = Err (record { line = line; kind = kind })
+
+-- the moves of the lines from the given number on, after so many earlier moves
+abbrev pub moves_from : Units → ℕ → ℕ → Position → List Piece → Result (List LineMove) CodeFault
+moves_from units line count old [] = Ok []
+moves_from units line count old (text ∷ lines) =
+    and_then (in_line line (judge_line units line count old text.bytes))
+    (λ (said, mv).
+    if said.last then Ok (and_later mv [])
+    else and_then (moves_from units (line + 1) (length (and_later mv []) + count) (moved old said) lines)
+    (λ later. Ok (and_later mv later)))
+
+-- the moves of a text, or its first fault
+abbrev pub moves_of : Units → List ℕ → Result (List LineMove) CodeFault
+moves_of units text = moves_from units 1 0 nowhere (lines_of text)

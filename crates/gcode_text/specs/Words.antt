@@ -1,0 +1,6 @@
+-- A word of the program, as the definitions see it.
+use Rattle.gcode_text.specs.Line.{Word}
+use Rattle.gcode_text.specs.declared.words.Word.{Word as WordRead}
+
+abbrev pub word_of : WordRead → Word
+word_of word = record { letter = word.letter; number = word.number.now }

@@ -1,0 +1,44 @@
+// What keeps a text from being code of the profile.
+
+/// What is wrong with a line of code.
+#[derive(Clone, Copy, Debug, PartialEq, Eq)]
+pub enum CodeKind {
+    /// No letter of the profile stands where a word begins, or a G or M number is outside the profile.
+    Word,
+    /// What follows a letter isn't a plain number of at most 27 digits.
+    Number,
+    /// A coordinate isn't a whole number of grid units.
+    OffGrid,
+    /// A letter other than G and M, or a motion word, stands twice in the line.
+    Twice,
+    /// G20 or G21 that isn't the job's unit.
+    Units,
+    /// G91: incremental distances.
+    Incremental,
+    /// The height is below the surface, and not every coordinate was known before the line.
+    Unplaced,
+    /// A coordinate is out of the grid's range.
+    OutOfRange,
+    /// The line has more than 1024 bytes.
+    LongLine,
+    /// A comment in parentheses doesn't end in its line.
+    OpenComment,
+    /// The line would give the 8,388,609th move.
+    TooMany,
+}
+
+/// The first fault of a text: the number of its line, from 1, and what is wrong with it.
+#[derive(Clone, Copy, Debug, PartialEq, Eq)]
+pub struct CodeFault {
+    pub line: u32,
+    pub kind: CodeKind,
+}
+
+/// Why a reader gives no moves.
+#[derive(Clone, Copy, Debug, PartialEq, Eq)]
+pub enum FinishFault {
+    /// The code has this fault.
+    Code(CodeFault),
+    /// There was no memory.
+    Memory,
+}

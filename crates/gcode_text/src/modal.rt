@@ -1,0 +1,105 @@
+// The modal state between lines: the coordinates that are known, and the move that a line gives.
+ghost use Rattle.std.specs.Prelude.{◌≡◌};
+ghost use Rattle.gcode_text.specs.Moves.{judge_move, names_place};
+
+use crate::fault::CodeKind;
+use crate::said::{Height, Said};
+use plane_exact::moves::{LineMove, Move, Place};
+use plane_exact::point::Point;
+
+/// The most moves of a text.
+const MOST_MOVES: usize = 8_388_608;
+
+/// The coordinates that are known, in grid units.
+#[derive(Clone, Copy)]
+pub struct Position {
+    pub x: Option<i16>,
+    pub y: Option<i16>,
+    pub z: Option<Height>,
+}
+
+impl Position {
+    ghost use Rattle.gcode_text.specs.Moves.{is_below, moved, nowhere, place_of};
+
+    /// No coordinate is known.
+    pub fn nowhere() -> Position
+        ensures { result ≡ nowhere }
+    {
+        Position {
+            x: None,
+            y: None,
+            z: None,
+        }
+    }
+
+    /// After a line that says this.
+    pub fn moved(&self, said: &Said) -> Position
+        ensures { result ≡ moved self.now said.now }
+    {
+        Position {
+            x: said.x.or(self.x),
+            y: said.y.or(self.y),
+            z: said.z.or(self.z),
+        }
+    }
+
+    // The place, where every coordinate is known.
+    fn place(&self) -> Option<Place>
+        ensures { result ≡ place_of self.now }
+    {
+        let at = Point::new(i64::from(self.x?), i64::from(self.y?))?;
+        let h = self.z?.units();
+        Some(Place { at, h })
+    }
+
+    // Whether the height is known and below the surface.
+    fn is_below(&self) -> bool
+        ensures { result ≡ is_below self.now.z }
+    {
+        match self.z {
+            Some(z) => z.units() < 0,
+            None => false,
+        }
+    }
+}
+
+/// The move of a line that says this, after `count` earlier moves: one if it names a coordinate and all were known
+/// before it. `Unplaced` where the height is below the surface behind the line and not every coordinate was known
+/// before it, else `TooMany` for a move past the most moves.
+pub fn judge_move(
+    line: u32,
+    count: usize,
+    old: &Position,
+    said: &Said,
+) -> Result<Option<LineMove>, CodeKind>
+    ensures { result ≡ judge_move line count old.now said.now }
+{
+    let new = old.moved(said);
+    let Some(from) = old.place() else {
+        return if new.is_below() {
+            Err(CodeKind::Unplaced)
+        } else {
+            Ok(None)
+        };
+    };
+    if !names_place(said) {
+        return Ok(None);
+    }
+    if count >= MOST_MOVES {
+        return Err(CodeKind::TooMany);
+    }
+    let Some(to) = new.place() else {
+        return Ok(None);
+    };
+    Ok(Some(LineMove {
+        line,
+        mv: Move { from, to },
+    }))
+}
+
+// Whether a word names a coordinate.
+fn names_place(said: &Said) -> bool
+    ensures { result ≡ names_place said.now }
+{
+    said.x.is_some() || said.y.is_some() || said.z.is_some()
+}
