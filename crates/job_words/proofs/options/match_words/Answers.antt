@@ -1,0 +1,17 @@
+use Rattle.std.proofs.Common.{map, string_bytes}
+use Rattle.job_words.specs.Options.{row_of}
+use Rattle.job_words.proofs.Taking.{taken_by, refused_by, values_by}
+use Rattle.job_words.proofs.options.match_words.Goals as goal
+
+pub returns-in-Ok-clause-taken : goal.returns-in-Ok-clause-taken
+returns-in-Ok-clause-taken c =
+    taken_by _ (map row_of c.args.options.now) (map string_bytes c.args.words.now) c.in_ok-command.ensures c.in-Ok.ensures.kinds
+
+pub returns-in-Ok-clause-values : goal.returns-in-Ok-clause-values
+returns-in-Ok-clause-values c =
+    values_by _ (map row_of c.args.options.now) (map string_bytes c.args.words.now) c.in_ok-command.ensures c.in-Ok.matches c.in-Ok.ensures.matches
+
+pub returns-in-Err-clause-usage : goal.returns-in-Err-clause-usage
+returns-in-Err-clause-usage c = λ usage.
+    refused_by _ (map row_of c.args.options.now) (map string_bytes c.args.words.now) c.in_ok-command.ensures c.in-Err.error
+    (c.fault_told_by.ensures (cc)) c.in-Err.ensures.kinds

@@ -1,0 +1,5 @@
+pub mod Commands
+pub mod Options
+pub mod Plain
+pub mod Request
+pub mod Values

@@ -1,0 +1,92 @@
+// The values that were found for the options, each None where it isn't in its form and range.
+ghost use Rattle.std.specs.Prelude.{◌≡◌, IfOk, IfSome, Some, None, Err, codes};
+ghost use Rattle.clap.specs.Words.{first_value, found_of};
+ghost use Rattle.plane_exact.specs.Cone.{IsFromOneTo};
+ghost use Rattle.job_words.specs.Values.{at_of, bit_of, rmax_of, limit_of, form_of, units_of};
+ghost use Rattle.job_words.specs.Request.{shape_of};
+
+use crate::request::{DrawingWords, FormWord};
+use crate::text::Text;
+use crate::values::{read_form, read_number, read_point, read_slope, read_units};
+use crate::words::WordsFault;
+use clap::ArgMatches;
+use grid_num::units::Units;
+use plane_exact::point::Point;
+use std::alloc::Global;
+
+pub fn at_in(found: &ArgMatches) -> Option<Point>
+    ensures { result ≡ at_of (first_value (found_of found.now) (codes "at")) }
+{
+    read_point(found.get_str("at")?)
+}
+
+pub fn bit_in(found: &ArgMatches) -> Option<(u32, u32)>
+    ensures value { result ≡ bit_of (first_value (found_of found.now) (codes "bit")) }
+    ensures range { IfSome result (λ bit. IsFromOneTo 2000 bit.0 × IsFromOneTo 2000 bit.1) }
+{
+    read_slope(found.get_str("bit")?)
+}
+
+pub fn rmax_in(found: &ArgMatches) -> Option<u32>
+    ensures value { result ≡ rmax_of (first_value (found_of found.now) (codes "rmax")) }
+    ensures range { IfSome result (IsFromOneTo 8191) }
+{
+    read_number(found.get_str("rmax")?, 8191)
+}
+
+/// 32,767 where the option doesn't stand.
+pub fn limit_in(found: &ArgMatches) -> Option<u32>
+    ensures value { result ≡ limit_of (first_value (found_of found.now) (codes "limit")) }
+    ensures range { IfSome result (IsFromOneTo 32767) }
+{
+    match found.get_str("limit") {
+        Some(text) => read_number(text, 32_767),
+        None => Some(32_767),
+    }
+}
+
+/// Loops where the option doesn't stand.
+fn form_in(found: &ArgMatches) -> Option<FormWord>
+    ensures { result ≡ form_of (first_value (found_of found.now) (codes "form")) }
+{
+    match found.get_str("form") {
+        Some(text) => read_form(text),
+        None => Some(FormWord::Loops),
+    }
+}
+
+/// 100 grid units a millimetre where the option doesn't stand.
+pub fn units_in(found: &ArgMatches) -> Option<Units>
+    ensures { result ≡ units_of (first_value (found_of found.now) (codes "units")) }
+{
+    match found.get_str("units") {
+        Some(text) => read_units(text),
+        None => Some(Units::Mm100),
+    }
+}
+
+/// A copy of the value of the option of this name.
+pub fn text_in(alloc: Global, found: &ArgMatches, name: &str) -> Result<Text, WordsFault>
+    ensures taken { IfOk result (λ text. first_value (found_of found.now) name.now ≡ Some text) }
+    ensures usage { result ≡ Err WordsFault.Usage → first_value (found_of found.now) name.now ≡ None }
+{
+    let text = found.get_str(name).ok_or(WordsFault::Usage)?;
+    Ok(Text::new(String::from_str(alloc, text)?))
+}
+
+/// The options that say which drawing a command is about.
+#[tactic(auto, unfolding(crate::specs::Request::shape_of))]
+pub fn shape_in(alloc: Global, found: &ArgMatches) -> Result<DrawingWords, WordsFault>
+    ensures taken { IfOk result (λ shape. shape_of (first_value (found_of found.now)) ≡ Some shape) }
+    ensures usage { result ≡ Err WordsFault.Usage
+        → shape_of (first_value (found_of found.now)) ≡ None }
+{
+    let form = form_in(found).ok_or(WordsFault::Usage)?;
+    let units = units_in(found).ok_or(WordsFault::Usage)?;
+    let drawing = text_in(alloc, found, "drawing")?;
+    Ok(DrawingWords {
+        drawing,
+        form,
+        units,
+    })
+}

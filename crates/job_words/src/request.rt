@@ -1,0 +1,53 @@
+// What the words of a command ask for.
+
+use crate::text::Text;
+use grid_num::units::Units;
+use plane_exact::point::Point;
+
+/// The form of a drawing's file.
+#[derive(Clone, Copy, Debug, PartialEq, Eq)]
+pub enum FormWord {
+    /// Loops of points, a loop a line.
+    Loops,
+}
+
+/// The options that say which drawing a command is about.
+#[derive(Debug, Drop)]
+pub struct DrawingWords {
+    /// The name of the drawing's file; it may be empty.
+    pub drawing: Text,
+    pub form: FormWord,
+    pub units: Units,
+}
+
+/// A command with the values of its options.
+#[derive(Debug, Drop)]
+pub enum Request {
+    /// The greatest depth at one point of a drawing.
+    Probe {
+        shape: DrawingWords,
+        at: Point,
+        /// The bit is `bit.0 / bit.1` wide, as a radius, for each unit of depth. Each number is from 1 to 2000.
+        bit: (u32, u32),
+        /// The greatest radius of the bit, in grid units, from 1 to 8191.
+        rmax: u32,
+        /// The greatest depth that is asked for, in grid units, from 1 to 32,767.
+        limit: u32,
+    },
+    /// The moves of a code.
+    Moves {
+        /// The name of the code's file; it may be empty.
+        code: Text,
+        units: Units,
+    },
+    /// Whether a code stays within a drawing.
+    Check {
+        shape: DrawingWords,
+        /// The name of the code's file; it may be empty.
+        code: Text,
+        /// As in `Probe`.
+        bit: (u32, u32),
+        /// As in `Probe`.
+        rmax: u32,
+    },
+}
