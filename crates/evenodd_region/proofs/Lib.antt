@@ -1,0 +1,10 @@
+pub mod Levels
+pub mod Crossings
+pub mod OneEdge
+pub mod Rounds
+pub mod Ways
+pub mod Discs
+pub mod Sparing
+pub mod Scaled
+pub mod Reach
+pub mod Answered

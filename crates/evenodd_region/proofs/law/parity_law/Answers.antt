@@ -1,0 +1,5 @@
+use Rattle.evenodd_region.proofs.Rounds.{parity}
+use Rattle.evenodd_region.proofs.law.parity_law.Goals as goal
+
+pub returns : goal.returns
+returns c = parity

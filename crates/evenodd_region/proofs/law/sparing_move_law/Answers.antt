@@ -1,0 +1,5 @@
+use Rattle.evenodd_region.proofs.Sparing.{sparing_is_safe}
+use Rattle.evenodd_region.proofs.law.sparing_move_law.Goals as goal
+
+pub returns : goal.returns
+returns c = sparing_is_safe

@@ -1,0 +1,4 @@
+pub mod Lookup
+pub mod Parity
+pub mod Ratios
+pub mod SafeMoves
