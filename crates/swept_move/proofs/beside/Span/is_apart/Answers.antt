@@ -1,0 +1,13 @@
+use Rattle.std.proofs.Common.{inl, inr}
+use Rattle.swept_move.proofs.Narrow.{gap_test}
+use Rattle.swept_move.proofs.beside.Span.is_apart.Goals as goal
+
+pub returns-else-self-reach : goal.returns-else-self-reach
+returns-else-self-reach c =
+    let here = c.args.self in
+    let there = c.args.other in
+    let before = gap_test here.high there.low c.args.reach c.requires here.high_range there.low_range in
+    let after = gap_test there.high here.low c.args.reach c.requires there.high_range here.low_range in (
+      (λ t. inr (after.0 t)),
+      (λ any. elim any [ inl gap ↦ absurd (let yes = before.1 gap in let no = c.if-self-reach.false in cc) | inr gap ↦ after.1 gap ]),
+    )

@@ -1,0 +1,5 @@
+use Rattle.swept_move.proofs.Swept.{removes_none}
+use Rattle.swept_move.proofs.law.swept_law.Goals as goal
+
+pub returns : goal.returns
+returns c = removes_none

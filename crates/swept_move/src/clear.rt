@@ -1,0 +1,74 @@
+// Whether a straight move keeps off an edge, by whole-number tests of the ends of both.
+ghost use Rattle.std.specs.Prelude.{◌↔◌, ◌*ℤ◌, ◌<ℤ◌, pos, IsTrue};
+ghost use Rattle.engrave_model.specs.Clear.{ArePartedByLine, IsCrossing, IsNowhereNegative, IsSlant, IsTooDeep, PassesEdge, corner_margin, depth_of};
+ghost use Rattle.engrave_model.specs.Depth.{IsEdgeClear};
+
+use crate::beside::is_beside;
+use crate::margin::margin_at;
+use crate::tip::{depth, point};
+use engrave_model::depth::is_edge_clear;
+use plane_exact::bit::Bit;
+use plane_exact::moves::Move;
+use plane_exact::point::{Point, Seg};
+use plane_exact::product::cross;
+
+/// Whether the move passes the tests against the edge: no disc at its ends holds a point of the edge, no disc on its way
+/// holds an end of the edge, and path and edge don't cross.
+pub fn clear_of(mv: &Move, bit: &Bit, s: Seg) -> bool
+    requires narrow { ¬ IsTooDeep bit.now mv.now }
+    requires straight { ¬ IsSlant mv.now }
+    ensures { IsTrue result ↔ PassesEdge bit.now mv.now s }
+{
+    is_beside(mv, bit, &s) || passes_tests(mv, bit, &s)
+}
+
+// The tests, those that take the least work first.
+fn passes_tests(mv: &Move, bit: &Bit, s: &Seg) -> bool
+    ensures { IsTrue result ↔ PassesEdge bit.now mv.now s.now }
+{
+    !is_crossing(mv, s) && are_corners_clear(mv, bit, s) && are_ends_clear(mv, bit, s)
+}
+
+// Whether the discs at the ends of the move hold no point of the edge.
+fn are_ends_clear(mv: &Move, bit: &Bit, s: &Seg) -> bool
+    ensures { IsTrue result ↔ (IsEdgeClear bit.now mv.now.from.at (depth_of mv.now.from.h) s.now × IsEdgeClear bit.now mv.now.to.at (depth_of mv.now.to.h) s.now) }
+{
+    is_edge_clear(*s, point(&mv.from), bit, depth(&mv.from))
+        && is_edge_clear(*s, point(&mv.to), bit, depth(&mv.to))
+}
+
+// Whether no disc of the move holds an end of the edge.
+fn are_corners_clear(mv: &Move, bit: &Bit, s: &Seg) -> bool
+    ensures { IsTrue result ↔ (IsNowhereNegative (corner_margin bit.now mv.now s.now.a) × IsNowhereNegative (corner_margin bit.now mv.now s.now.b)) }
+{
+    is_corner_clear(mv, bit, s.a) && is_corner_clear(mv, bit, s.b)
+}
+
+// Whether no disc of the move holds the corner.
+fn is_corner_clear(mv: &Move, bit: &Bit, corner: Point) -> bool
+    ensures { IsTrue result ↔ IsNowhereNegative (corner_margin bit.now mv.now corner) }
+{
+    margin_at(mv, bit, corner).is_nowhere_negative()
+}
+
+// Whether path and edge cross, with their ends strictly on opposite sides of each other.
+fn is_crossing(mv: &Move, s: &Seg) -> bool
+    ensures { IsTrue result ↔ IsCrossing mv.now s.now }
+{
+    let from = point(&mv.from);
+    let to = point(&mv.to);
+    are_parted(s.a, s.b, from, to) && are_parted(from, to, s.a, s.b)
+}
+
+// Whether `c` and `d` lie strictly on opposite sides of the line through `a` and `b`.
+fn are_parted(a: Point, b: Point, c: Point, d: Point) -> bool
+    ensures { IsTrue result ↔ ArePartedByLine a b c d }
+{
+    let left_c = cross(a, b, c);
+    let left_d = cross(a, b, d);
+    if left_c < 0 {
+        left_d > 0
+    } else {
+        left_c > 0 && left_d < 0
+    }
+}

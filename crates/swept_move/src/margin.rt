@@ -1,0 +1,129 @@
+// How much farther than the bit's radius a corner is from the tip, along a move: a quadratic in the moment.
+ghost use mir.Syntax.{w64, w128};
+ghost use Rattle.std.specs.Prelude.{◌≡◌, ◌↔◌, ◌⊎◌, ◌≤◌, pos, negsuc, ◌+ℤ◌, ◌-ℤ◌, ◌*ℤ◌, ◌≤ℤ◌, FitsSigned, IsTrue};
+ghost use Rattle.plane_exact.specs.Distance.{square};
+ghost use Rattle.plane_exact.specs.Product.{IsProduct};
+ghost use Rattle.swept_move.specs.Range.{IsMargin};
+ghost use Rattle.engrave_model.specs.Clear.{corner_margin, IsNowhereNegative};
+
+use crate::tip::{depth_down, point, sinks};
+use plane_exact::bit::Bit;
+use plane_exact::moves::Move;
+use plane_exact::point::Point;
+use plane_exact::product::dot;
+
+// a s^2 + 2 half s + c, where s is the moment.
+#[derive(Clone, Copy)]
+pub struct Margin {
+    pub a: i64,
+    pub half: i64,
+    pub c: i64,
+    ghost a_range: { IsMargin a },
+    ghost half_range: { IsMargin half },
+    ghost c_range: { IsMargin c },
+}
+
+// The square of one of the bit's numbers.
+fn squared(number: u32) -> i64
+    requires { number ≤ 2000 }
+    ensures value { result ≡ square (pos number) }
+    ensures low { pos 0 ≤ℤ result }
+    ensures high { result ≤ℤ pos 4000000 }
+{
+    number as i64 * number as i64
+}
+
+// A product that 64 bits hold.
+fn times(a: i64, b: i64) -> i64
+    requires { FitsSigned w64 (a *ℤ b) }
+    ensures { result ≡ a *ℤ b }
+{
+    a * b
+}
+
+// The product of two coefficients, which 64 bits needn't hold.
+fn times_wide(a: i64, b: i64) -> i128
+    requires a { IsMargin a }
+    requires b { IsMargin b }
+    ensures { result ≡ a *ℤ b }
+{
+    a as i128 * b as i128
+}
+
+// How much the product of two ways exceeds that of two depths, each times the square of the bit's number for it.
+fn excess(bit: &Bit, ways: i64, depths: i64) -> i64
+    requires ways { IsProduct ways }
+    requires depths { IsProduct depths }
+    ensures value { result ≡ square (pos bit.now.sd) *ℤ ways -ℤ square (pos bit.now.sn) *ℤ depths }
+    ensures range { IsMargin result }
+{
+    times(squared(bit.sd()), ways) - times(squared(bit.sn()), depths)
+}
+
+// The product of two numbers of the size of a depth.
+fn depths(a: i64, b: i64) -> i64
+    requires a_low { negsuc 32766 ≤ℤ a }
+    requires a_high { a ≤ℤ pos 32767 }
+    requires b_low { negsuc 32766 ≤ℤ b }
+    requires b_high { b ≤ℤ pos 32767 }
+    ensures value { result ≡ a *ℤ b }
+    ensures range { IsProduct result }
+{
+    a * b
+}
+
+// The product of the ways from the corner to the start and from there to the finish: above 0 where the move begins by
+// leaving the corner.
+fn away(from: Point, to: Point, corner: Point) -> i64
+    ensures value { result ≡ (from.x -ℤ corner.x) *ℤ (to.x -ℤ from.x) +ℤ (from.y -ℤ corner.y) *ℤ (to.y -ℤ from.y) }
+    ensures range { IsProduct result }
+{
+    -dot(from, corner, to)
+}
+
+// How much farther than the bit's radius the corner is from the tip, as a quadratic in the moment.
+pub fn margin_at(mv: &Move, bit: &Bit, corner: Point) -> Margin
+    ensures a { result.a ≡ (corner_margin bit.now mv.now corner).a }
+    ensures half { pos 2 *ℤ result.half ≡ (corner_margin bit.now mv.now corner).b }
+    ensures c { result.c ≡ (corner_margin bit.now mv.now corner).c }
+{
+    let from = point(&mv.from);
+    let to = point(&mv.to);
+    let start = depth_down(&mv.from);
+    let sinks = sinks(mv);
+    Margin {
+        a: excess(bit, dot(from, to, to), depths(sinks, sinks)),
+        half: excess(bit, away(from, to, corner), depths(start, sinks)),
+        c: excess(bit, dot(corner, from, from), depths(start, start)),
+    }
+}
+
+impl Margin {
+    // Whether the quadratic isn't negative from 0 to 1. Only the last test takes wide products.
+    pub fn is_nowhere_negative(self) -> bool
+        ensures { IsTrue result ↔ IsNowhereNegative (record { a = self.a; b = pos 2 *ℤ self.half; c = self.c }) }
+    {
+        self.are_ends_clear() && (self.lowest_is_outside() || self.lowest_is_clear())
+    }
+
+    // Whether the values at the moments 0 and 1 aren't negative.
+    fn are_ends_clear(self) -> bool
+        ensures { IsTrue result ↔ ((pos 0 ≤ℤ self.c) × (pos 0 ≤ℤ (self.a +ℤ pos 2 *ℤ self.half +ℤ self.c))) }
+    {
+        self.c >= 0 && self.a + 2 * self.half + self.c >= 0
+    }
+
+    // Whether the quadratic opens downwards, or has its lowest point outside of the moments between 0 and 1.
+    fn lowest_is_outside(self) -> bool
+        ensures { IsTrue result ↔ ((self.a ≤ℤ pos 0) ⊎ ((pos 0 ≤ℤ (pos 2 *ℤ self.half)) ⊎ ((pos 2 *ℤ self.half +ℤ pos 2 *ℤ self.a) ≤ℤ pos 0))) }
+    {
+        self.a <= 0 || self.half >= 0 || self.half + self.a <= 0
+    }
+
+    // Whether the lowest point of a quadratic that opens upwards isn't below 0.
+    fn lowest_is_clear(self) -> bool
+        ensures { IsTrue result ↔ (square (pos 2 *ℤ self.half) ≤ℤ (pos 4 *ℤ (self.a *ℤ self.c))) }
+    {
+        times_wide(self.half, self.half) <= times_wide(self.a, self.c)
+    }
+}

@@ -1,0 +1,39 @@
+// Where the tip is, and how deep.
+ghost use Rattle.std.specs.Prelude.{◌≡◌, ◌≤◌, pos, negsuc, ◌-ℤ◌, ◌≤ℤ◌};
+ghost use Rattle.engrave_model.specs.Clear.{depth_of};
+
+use plane_exact::moves::{Move, Place};
+use plane_exact::point::Point;
+
+// The point that the place is over.
+pub fn point(place: &Place) -> Point
+    ensures { result ≡ place.now.at }
+{
+    place.at
+}
+
+// How deep the place is below the surface, in grid units: 0 from the surface up.
+pub fn depth(place: &Place) -> u32
+    ensures value { result ≡ depth_of place.now.h }
+    ensures range { result ≤ 32767 }
+{
+    if place.h < 0 { (-place.h) as u32 } else { 0 }
+}
+
+// The same as a signed number.
+pub fn depth_down(place: &Place) -> i64
+    ensures value { result ≡ pos (depth_of place.now.h) }
+    ensures low { pos 0 ≤ℤ result }
+    ensures high { result ≤ℤ pos 32767 }
+{
+    depth(place) as i64
+}
+
+// How much deeper the move's finish is than its start.
+pub fn sinks(mv: &Move) -> i64
+    ensures value { result ≡ pos (depth_of mv.now.to.h) -ℤ pos (depth_of mv.now.from.h) }
+    ensures low { negsuc 32766 ≤ℤ result }
+    ensures high { result ≤ℤ pos 32767 }
+{
+    depth_down(&mv.to) - depth_down(&mv.from)
+}
