@@ -1,0 +1,63 @@
+// The scene of a drawing.
+use evenodd_region::rows::{Rows, inside, inside_ratio};
+use loops_text::drawing::Drawing;
+use plane_exact::point::Point;
+use std::alloc::{AllocError, Global};
+use std::marker::Model;
+
+/// A drawing, ready to be asked about points, depths and moves.
+#[derive(Debug, Drop)]
+pub struct Scene {
+    drawing: Drawing,
+    rows: Rows,
+}
+
+impl Model for Scene {
+    ghost use Rattle.std.specs.Prelude.{List};
+    ghost use Rattle.plane_exact.specs.Plane.{GridPoint};
+    ghost use Rattle.evenodd_region.specs.Lookup.{AreRowsOf};
+
+    ghost Value = { List (List GridPoint) };
+
+    ghost view = { λ s. s.drawing };
+
+    ghost invariant = { λ s. AreRowsOf s.rows s.drawing };
+}
+
+impl Scene {
+    ghost use Rattle.std.specs.Prelude.{◌≡◌, ◌↔◌, IfOk, IsTrue};
+    ghost use Rattle.plane_exact.specs.Plane.{RationalPoint, rational};
+    ghost use Rattle.engrave_model.specs.Drawing.{edges_of};
+    ghost use Rattle.engrave_model.specs.Inside.{IsInside};
+    ghost use Rattle.evenodd_region.specs.Lookup.{IsPointOf, IsRatio};
+
+    /// The scene of a drawing. It may answer that memory ran out.
+    pub fn new(alloc: Global, drawing: Drawing) -> Result<Scene, AllocError>
+        ensures { IfOk result (λ scene. scene ≡ drawing) }
+    {
+        let rows = Rows::build(alloc, &drawing)?;
+        Ok(Scene { drawing, rows })
+    }
+
+    pub fn drawing(&self) -> &Drawing
+        ensures { result.now ≡ self.now }
+    {
+        &self.drawing
+    }
+
+    /// Whether the drawing holds the grid point.
+    pub fn is_inside(&self, p: Point) -> bool
+        ensures { IsTrue result ↔ IsInside (edges_of self.now) (rational p) }
+    {
+        inside(&self.rows, p)
+    }
+
+    /// Whether the drawing holds the point (x / den, y / den), in grid units. The denominator is from 1 to 2^30, and both
+    /// quotients are from -40,960 to 40,959.
+    pub fn inside_at(&self, x: i128, y: i128, den: i128) -> bool
+        requires { IsRatio x y den }
+        ensures { (w : RationalPoint) → IsPointOf x y den w → IsTrue result ↔ IsInside (edges_of self.now) w }
+    {
+        inside_ratio(&self.rows, x, y, den)
+    }
+}
