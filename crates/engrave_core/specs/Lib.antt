@@ -1,0 +1,4 @@
+pub mod Due
+pub mod Line
+pub mod Outcome
+pub mod Top

@@ -1,0 +1,71 @@
+-- The line that tells a refusal.
+use Rattle.std.specs.Prelude.{ℕ, List, [], ◌++◌, codes, decimal}
+use Rattle.engrave_core.specs.declared.outcome.InputFault.{InputFault}
+use Rattle.engrave_core.specs.declared.outcome.InputFault.TheVariants.{TooLong, Loops, Code}
+use Rattle.engrave_core.specs.declared.outcome.Outcome.{Outcome}
+use Rattle.engrave_core.specs.declared.outcome.Outcome.TheVariants.{Done, NotClear, Usage, Input, Absent, ReadFault, WriteFault, Memory}
+use Rattle.engrave_core.specs.declared.outcome.Which.{Which}
+use Rattle.engrave_core.specs.declared.outcome.Which.TheVariants as which
+use Rattle.gcode_text.specs.declared.fault.CodeFault.{CodeFault}
+use Rattle.gcode_text.specs.declared.fault.CodeKind.{CodeKind}
+use Rattle.gcode_text.specs.declared.fault.CodeKind.TheVariants as code
+use Rattle.gouge_checker.specs.declared.check.Verdict.{Verdict}
+use Rattle.gouge_checker.specs.declared.check.Verdict.TheVariants as verdict
+use Rattle.loops_text.specs.declared.reader.LoopsFault.{LoopsFault}
+use Rattle.loops_text.specs.declared.reader.LoopsKind.{LoopsKind}
+use Rattle.loops_text.specs.declared.reader.LoopsKind.TheVariants as loops
+
+abbrev pub which_line : List ℕ → Which → List ℕ
+which_line refusal which.Drawing = refusal ++ codes " drawing\n"
+which_line refusal which.Code = refusal ++ codes " code\n"
+
+abbrev pub loops_words : LoopsKind → List ℕ
+loops_words loops.Syntax = codes " syntax\n"
+loops_words loops.Short = codes " short\n"
+loops_words loops.SamePoint = codes " same point\n"
+loops_words loops.OutOfRange = codes " out of range\n"
+loops_words loops.TooMany = codes " too many\n"
+loops_words loops.Memory = codes " memory\n"
+
+abbrev pub loops_line : LoopsFault → List ℕ
+loops_line fault = codes "input loops " ++ decimal fault.at ++ loops_words fault.kind
+
+abbrev pub code_words : CodeKind → List ℕ
+code_words code.Word = codes " word\n"
+code_words code.Number = codes " number\n"
+code_words code.OffGrid = codes " off grid\n"
+code_words code.Twice = codes " twice\n"
+code_words code.Units = codes " units\n"
+code_words code.Incremental = codes " incremental\n"
+code_words code.Unplaced = codes " unplaced\n"
+code_words code.OutOfRange = codes " out of range\n"
+code_words code.LongLine = codes " long line\n"
+code_words code.OpenComment = codes " open comment\n"
+code_words code.TooMany = codes " too many\n"
+
+abbrev pub code_line : CodeFault → List ℕ
+code_line fault = codes "input code line " ++ decimal fault.line ++ code_words fault.kind
+
+abbrev pub input_line : InputFault → List ℕ
+input_line (TooLong which) = which_line (codes "input too long") which
+input_line (Loops fault) = loops_line fault
+input_line (Code fault) = code_line fault
+
+-- the line of a verdict that isn't `Clear`
+abbrev pub verdict_line : Verdict → List ℕ
+verdict_line verdict.Clear = []
+verdict_line (verdict.TooDeep line) = codes "line " ++ decimal line ++ codes " too deep\n"
+verdict_line (verdict.Slant line) = codes "line " ++ decimal line ++ codes " slant\n"
+verdict_line (verdict.Gouge line edge) = codes "line " ++ decimal line ++ codes " gouge edge " ++ decimal edge ++ codes "\n"
+verdict_line (verdict.Outside line) = codes "line " ++ decimal line ++ codes " outside\n"
+
+-- the line of a refusal; `Done`, `WriteFault` and `Memory` have none
+abbrev pub line_of : Outcome → List ℕ
+line_of Done = []
+line_of (NotClear verdict) = verdict_line verdict
+line_of Usage = codes "usage\n"
+line_of (Input fault) = input_line fault
+line_of (Absent which) = which_line (codes "absent") which
+line_of ReadFault = codes "read fault\n"
+line_of WriteFault = []
+line_of Memory = []

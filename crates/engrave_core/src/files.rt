@@ -1,0 +1,120 @@
+// The files that a command names: loaded and read, or refused.
+ghost use Rattle.std.specs.Prelude.{◌≡◌, ◌≤◌, length, Ok, Err, IfOk, IfErr, IfSome, MatchResult};
+ghost use Rattle.engrave_core.specs.Due.{bytes_of, code_of, drawing_of, held_code, held_drawing, most_code_bytes, most_drawing_bytes};
+ghost use Rattle.engrave_core.specs.Outcome.{IfAnswered, IsFaultOfFiles, IsFaultOfText};
+ghost use Rattle.engrave_core.specs.Top.{IsCaused};
+
+use crate::outcome::{InputFault, Outcome, Which};
+use gcode_text::fault::FinishFault;
+use gcode_text::program::moves_in;
+use grid_num::units::Units;
+use loops_text::drawing::Drawing;
+use loops_text::reader::{LoopsFault, LoopsKind, read_loops};
+use plane_exact::moves::LineMove;
+use shop_port::{Depot, LoadFault, load};
+use std::alloc::Global;
+
+/// A drawing's file may have 16,777,216 bytes.
+pub const MOST_DRAWING_BYTES: u64 = 16_777_216;
+
+/// A code's file may have 536,870,912 bytes.
+pub const MOST_CODE_BYTES: u64 = 536_870_912;
+
+/// The drawing in the file of this name, or the refusal.
+#[tactic(auto, unfolding(crate::specs::Due::held_drawing))]
+pub fn load_drawing<D: Depot>(alloc: Global, name: &str, depot: &mut D) -> Result<Drawing, Outcome>
+    ensures told { IfSome (D.held depot.old) (λ files. MatchResult result
+        (λ drawing. held_drawing files name.now ≡ Ok drawing)
+        (λ refusal. IfAnswered refusal (held_drawing files name.now ≡ Err refusal))) }
+    ensures refusal { IfErr result IsFaultOfFiles }
+    ensures caused { IfErr result (IsCaused (D.faults depot.old) (D.faults depot.new) (D.misses depot.old) (D.misses depot.new)) }
+    ensures held { D.held depot.new ≡ D.held depot.old }
+    ensures faults { D.faults depot.old ≤ D.faults depot.new }
+    ensures misses { D.misses depot.old ≤ D.misses depot.new }
+{
+    let bytes = load_file(alloc, name, Which::Drawing, MOST_DRAWING_BYTES, depot)?;
+    read_drawing(alloc, &bytes)
+}
+
+/// The moves of the code in the file of this name, or the refusal.
+#[tactic(auto, unfolding(crate::specs::Due::held_code))]
+pub fn load_code<D: Depot>(
+    alloc: Global,
+    name: &str,
+    units: Units,
+    depot: &mut D,
+) -> Result<Vec<LineMove>, Outcome>
+    ensures told { IfSome (D.held depot.old) (λ files. MatchResult result
+        (λ moves. held_code files units name.now ≡ Ok moves.items)
+        (λ refusal. IfAnswered refusal (held_code files units name.now ≡ Err refusal))) }
+    ensures refusal { IfErr result IsFaultOfFiles }
+    ensures caused { IfErr result (IsCaused (D.faults depot.old) (D.faults depot.new) (D.misses depot.old) (D.misses depot.new)) }
+    ensures held { D.held depot.new ≡ D.held depot.old }
+{
+    let bytes = load_file(alloc, name, Which::Code, MOST_CODE_BYTES, depot)?;
+    read_code(alloc, units, &bytes)
+}
+
+/// The bytes of the file of this name, which may have up to `cap` bytes, or the refusal.
+fn load_file<D: Depot>(
+    alloc: Global,
+    name: &str,
+    which: Which,
+    cap: u64,
+    depot: &mut D,
+) -> Result<Vec<u8>, Outcome>
+    ensures told { IfSome (D.held depot.old) (λ files. MatchResult result
+        (λ bytes. bytes_of which cap (files name.now) ≡ Ok bytes.items)
+        (λ refusal. IfAnswered refusal (bytes_of which cap (files name.now) ≡ Err refusal))) }
+    ensures capped { IfOk result (λ bytes. length bytes.items ≤ cap) }
+    ensures refusal { IfErr result IsFaultOfFiles }
+    ensures caused { IfErr result (IsCaused (D.faults depot.old) (D.faults depot.new) (D.misses depot.old) (D.misses depot.new)) }
+    ensures held { D.held depot.new ≡ D.held depot.old }
+    ensures faults { D.faults depot.old ≤ D.faults depot.new }
+    ensures misses { D.misses depot.old ≤ D.misses depot.new }
+{
+    match load(alloc, depot, name, cap) {
+        Ok(bytes) => Ok(bytes),
+        Err(LoadFault::Absent) => Err(Outcome::Absent(which)),
+        Err(LoadFault::ReadFault) => Err(Outcome::ReadFault),
+        Err(LoadFault::TooLong) => Err(Outcome::Input(InputFault::TooLong(which))),
+        Err(LoadFault::Memory) => Err(Outcome::Memory),
+    }
+}
+
+/// The drawing of a text in loops form, or the refusal.
+#[tactic(auto, unfolding(crate::specs::Due::drawing_of))]
+fn read_drawing(alloc: Global, bytes: &[u8]) -> Result<Drawing, Outcome>
+    requires { length bytes.now ≤ most_drawing_bytes }
+    ensures told { MatchResult result
+        (λ drawing. drawing_of bytes.now ≡ Ok drawing)
+        (λ refusal. IfAnswered refusal (drawing_of bytes.now ≡ Err refusal)) }
+    ensures refusal { IfErr result IsFaultOfText }
+{
+    match read_loops(alloc, bytes) {
+        Ok(drawing) => Ok(drawing),
+        Err(
+            LoopsFault {
+                kind: LoopsKind::Memory,
+                ..
+            },
+        ) => Err(Outcome::Memory),
+        Err(fault) => Err(Outcome::Input(InputFault::Loops(fault))),
+    }
+}
+
+/// The moves of a code, or the refusal.
+#[tactic(auto, unfolding(crate::specs::Due::code_of))]
+fn read_code(alloc: Global, units: Units, bytes: &[u8]) -> Result<Vec<LineMove>, Outcome>
+    requires { length bytes.now ≤ most_code_bytes }
+    ensures told { MatchResult result
+        (λ moves. code_of units bytes.now ≡ Ok moves.items)
+        (λ refusal. IfAnswered refusal (code_of units bytes.now ≡ Err refusal)) }
+    ensures refusal { IfErr result IsFaultOfText }
+{
+    match moves_in(alloc, units, bytes) {
+        Ok(moves) => Ok(moves),
+        Err(FinishFault::Code(fault)) => Err(Outcome::Input(InputFault::Code(fault))),
+        Err(FinishFault::Memory) => Err(Outcome::Memory),
+    }
+}

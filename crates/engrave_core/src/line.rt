@@ -1,0 +1,80 @@
+// The lines that tell a refusal.
+ghost use Rattle.std.specs.Prelude.{◌≡◌, string_bytes, IfOk, MatchOption};
+ghost use Rattle.engrave_core.specs.Line.{line_of, input_line, loops_line, code_line, verdict_line};
+
+use crate::outcome::{InputFault, Outcome, Which};
+use gcode_text::fault::{CodeFault, CodeKind};
+use gouge_checker::check::Verdict;
+use loops_text::reader::{LoopsFault, LoopsKind};
+use std::alloc::{AllocError, Global};
+
+/// The line of a refusal; empty for an outcome that has none.
+pub fn line_of_refusal(alloc: Global, outcome: &Outcome) -> Result<String, AllocError>
+    ensures { IfOk result (λ line. string_bytes line ≡ line_of outcome.now) }
+{
+    match outcome {
+        Outcome::NotClear(verdict) => line_of_verdict(alloc, verdict),
+        Outcome::Usage => String::from_str(alloc, "usage\n"),
+        Outcome::Input(fault) => line_of_input(alloc, fault),
+        Outcome::Absent(Which::Drawing) => String::from_str(alloc, "absent drawing\n"),
+        Outcome::Absent(Which::Code) => String::from_str(alloc, "absent code\n"),
+        Outcome::ReadFault => String::from_str(alloc, "read fault\n"),
+        Outcome::Done | Outcome::WriteFault | Outcome::Memory => Ok(String::new(alloc)),
+    }
+}
+
+fn line_of_input(alloc: Global, fault: &InputFault) -> Result<String, AllocError>
+    ensures { IfOk result (λ line. string_bytes line ≡ input_line fault.now) }
+{
+    match fault {
+        InputFault::TooLong(Which::Drawing) => String::from_str(alloc, "input too long drawing\n"),
+        InputFault::TooLong(Which::Code) => String::from_str(alloc, "input too long code\n"),
+        InputFault::Loops(fault) => line_of_loops(alloc, fault),
+        InputFault::Code(fault) => line_of_code(alloc, fault),
+    }
+}
+
+fn line_of_loops(alloc: Global, fault: &LoopsFault) -> Result<String, AllocError>
+    ensures { IfOk result (λ line. string_bytes line ≡ loops_line fault.now) }
+{
+    let at = fault.at;
+    match fault.kind {
+        LoopsKind::Syntax => format!(in alloc; "input loops {at} syntax\n"),
+        LoopsKind::Short => format!(in alloc; "input loops {at} short\n"),
+        LoopsKind::SamePoint => format!(in alloc; "input loops {at} same point\n"),
+        LoopsKind::OutOfRange => format!(in alloc; "input loops {at} out of range\n"),
+        LoopsKind::TooMany => format!(in alloc; "input loops {at} too many\n"),
+        LoopsKind::Memory => format!(in alloc; "input loops {at} memory\n"),
+    }
+}
+
+fn line_of_code(alloc: Global, fault: &CodeFault) -> Result<String, AllocError>
+    ensures { IfOk result (λ line. string_bytes line ≡ code_line fault.now) }
+{
+    let line = fault.line;
+    match fault.kind {
+        CodeKind::Word => format!(in alloc; "input code line {line} word\n"),
+        CodeKind::Number => format!(in alloc; "input code line {line} number\n"),
+        CodeKind::OffGrid => format!(in alloc; "input code line {line} off grid\n"),
+        CodeKind::Twice => format!(in alloc; "input code line {line} twice\n"),
+        CodeKind::Units => format!(in alloc; "input code line {line} units\n"),
+        CodeKind::Incremental => format!(in alloc; "input code line {line} incremental\n"),
+        CodeKind::Unplaced => format!(in alloc; "input code line {line} unplaced\n"),
+        CodeKind::OutOfRange => format!(in alloc; "input code line {line} out of range\n"),
+        CodeKind::LongLine => format!(in alloc; "input code line {line} long line\n"),
+        CodeKind::OpenComment => format!(in alloc; "input code line {line} open comment\n"),
+        CodeKind::TooMany => format!(in alloc; "input code line {line} too many\n"),
+    }
+}
+
+fn line_of_verdict(alloc: Global, verdict: &Verdict) -> Result<String, AllocError>
+    ensures { IfOk result (λ line. string_bytes line ≡ verdict_line verdict.now) }
+{
+    match verdict {
+        Verdict::Clear => Ok(String::new(alloc)),
+        Verdict::TooDeep { line } => format!(in alloc; "line {line} too deep\n"),
+        Verdict::Slant { line } => format!(in alloc; "line {line} slant\n"),
+        Verdict::Gouge { line, edge } => format!(in alloc; "line {line} gouge edge {edge}\n"),
+        Verdict::Outside { line } => format!(in alloc; "line {line} outside\n"),
+    }
+}

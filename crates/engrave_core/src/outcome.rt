@@ -1,0 +1,62 @@
+// What a run of the program comes to, and the exit status that tells it.
+ghost use Rattle.std.specs.Prelude.{◌≡◌};
+ghost use Rattle.engrave_core.specs.Outcome.{status_of};
+
+use gcode_text::fault::CodeFault;
+use gouge_checker::check::Verdict;
+use loops_text::reader::LoopsFault;
+
+/// What a run came to.
+#[derive(Clone, Copy, Debug, PartialEq, Eq)]
+pub enum Outcome {
+    /// The whole text was written.
+    Done,
+    /// The code isn't clear: the verdict on it, which isn't `Clear`.
+    NotClear(Verdict),
+    /// The words aren't a command of the program.
+    Usage,
+    /// The input has a fault.
+    Input(InputFault),
+    /// There is no file of this name.
+    Absent(Which),
+    /// A file couldn't be read.
+    ReadFault,
+    /// The output couldn't be written; what was written is a front part of the text.
+    WriteFault,
+    /// Memory ran out, and nothing was written.
+    Memory,
+}
+
+/// A file that a command names.
+#[derive(Clone, Copy, Debug, PartialEq, Eq)]
+pub enum Which {
+    Drawing,
+    Code,
+}
+
+/// What is wrong with an input.
+#[derive(Clone, Copy, Debug, PartialEq, Eq)]
+pub enum InputFault {
+    /// The file is longer than its limit.
+    TooLong(Which),
+    /// The drawing isn't in loops form.
+    Loops(LoopsFault),
+    /// The code isn't code of the profile.
+    Code(CodeFault),
+}
+
+/// The exit status that tells an outcome: from 0 for `Done` to 7 for `Memory`, in the order of the outcomes.
+pub fn status(outcome: &Outcome) -> u8
+    ensures { result ≡ status_of outcome.now }
+{
+    match outcome {
+        Outcome::Done => 0,
+        Outcome::NotClear(_) => 1,
+        Outcome::Usage => 2,
+        Outcome::Input(_) => 3,
+        Outcome::Absent(_) => 4,
+        Outcome::ReadFault => 5,
+        Outcome::WriteFault => 6,
+        Outcome::Memory => 7,
+    }
+}

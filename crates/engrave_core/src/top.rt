@@ -1,0 +1,112 @@
+// The top call: a command's words in, its outcome and its whole text out.
+ghost use Rattle.std.specs.Prelude.{◌≡◌, ◌⊎◌, ◌≤◌, map, string_bytes, IfSome, IfOk, OnOk};
+ghost use Rattle.job_words.specs.Request.{request_of};
+ghost use Rattle.shop_port.specs.Counts.{Rose};
+ghost use Rattle.shop_port.specs.Output.{Appended, AppendedPart};
+ghost use Rattle.engrave_core.specs.Due.{IsDue};
+ghost use Rattle.engrave_core.specs.Line.{line_of};
+ghost use Rattle.engrave_core.specs.Outcome.{IfAnswered, IfRefused, IfAbsent, HasText, IsNoMemoryFault};
+ghost use Rattle.engrave_core.specs.Top.{IsTaken, WritesDue, WritesPart, WritesPartOfReadFault, IsCaused, IsSafeRun};
+
+use crate::command::answer;
+use crate::line::line_of_refusal;
+use crate::outcome::Outcome;
+use shop_port::{Depot, Sink, WriteFault, send};
+use std::alloc::{AllocError, Global};
+
+/// What a command comes to before anything is written.
+#[derive(Drop)]
+struct Reply {
+    outcome: Outcome,
+    text: String,
+}
+
+/// Runs a command: reads its words and files, makes the whole text, and writes it.
+///
+/// The words don't include the program's own name. A refusal writes its one line; want of memory writes nothing; where
+/// the output fails, a front part of the text was written.
+pub fn engrave<D: Depot, S: Sink>(
+    alloc: Global,
+    words: &[String],
+    depot: &mut D,
+    out: &mut S,
+) -> Outcome
+    // What the words and the files decide is what is due, and its whole text is written.
+    ensures due { IfSome (D.held depot.old) (λ files. IfAnswered result
+        (WritesDue (map string_bytes words.now) files result (S.written out.old) (S.written out.new))) }
+
+    // A refusal writes its own line and nothing else.
+    ensures refused { IfRefused result (Appended (S.written out.old) (S.written out.new) (line_of result)) }
+
+    // Faults of the outside have their cause there.
+    ensures caused { IsCaused (D.faults depot.old) (D.faults depot.new) (D.misses depot.old) (D.misses depot.new) result }
+    ensures write_fault { result ≡ Outcome.WriteFault → Rose (S.faults out.old) (S.faults out.new) }
+    ensures cut_short { IfSome (D.held depot.old) (λ files. result ≡ Outcome.WriteFault →
+        WritesPart (map string_bytes words.now) files (S.written out.old) (S.written out.new)
+        ⊎ WritesPartOfReadFault (S.written out.old) (S.written out.new) (D.faults depot.old) (D.faults depot.new)) }
+
+    // Words that aren't taken are answered before any file is read.
+    ensures usage { result ≡ Outcome.Usage → ¬ IsTaken (map string_bytes words.now) }
+    ensures read_fault_taken { result ≡ Outcome.ReadFault → IsTaken (map string_bytes words.now) }
+    ensures absent_taken { IfAbsent result (IsTaken (map string_bytes words.now)) }
+
+    // Want of memory writes nothing, and is told as nothing else.
+    ensures memory { result ≡ Outcome.Memory → S.written out.new ≡ S.written out.old }
+    ensures inner { IsNoMemoryFault result }
+
+    // Where nothing of the outside failed, the outcome is the one that is due, or memory ran out.
+    ensures complete { IfSome (D.held depot.old) (λ files.
+        ¬ Rose (D.faults depot.old) (D.faults depot.new) → ¬ Rose (S.faults out.old) (S.faults out.new) →
+        (result ≡ Outcome.Memory)
+        ⊎ WritesDue (map string_bytes words.now) files result (S.written out.old) (S.written out.new)) }
+
+    // Code that is called clear removes no point outside the drawing, at any moment of any move.
+    ensures safe { IfSome (D.held depot.old) (λ files. result ≡ Outcome.Done → IsSafeRun files (request_of (map string_bytes words.now))) }
+
+    ensures held { D.held depot.new ≡ D.held depot.old }
+{
+    match decide(alloc, words, depot) {
+        Ok(reply) => write(reply, out),
+        Err(AllocError) => Outcome::Memory,
+    }
+}
+
+/// Makes the outcome and the whole text.
+fn decide<D: Depot>(alloc: Global, words: &[String], depot: &mut D) -> Result<Reply, AllocError>
+    ensures due { IfSome (D.held depot.old) (λ files. IfOk result (λ reply. IfAnswered reply.outcome
+        (IsDue (map string_bytes words.now) files reply.outcome (string_bytes reply.text)))) }
+    ensures refused { IfOk result (λ reply. IfRefused reply.outcome (string_bytes reply.text ≡ line_of reply.outcome)) }
+    ensures writes { IfOk result (λ reply. HasText reply.outcome) }
+    ensures inner { IfOk result (λ reply. IsNoMemoryFault reply.outcome) }
+    ensures caused { IfOk result (λ reply. IsCaused (D.faults depot.old) (D.faults depot.new) (D.misses depot.old) (D.misses depot.new) reply.outcome) }
+    ensures usage { IfOk result (λ reply. reply.outcome ≡ Outcome.Usage → ¬ IsTaken (map string_bytes words.now)) }
+    ensures read_fault { IfOk result (λ reply. reply.outcome ≡ Outcome.ReadFault → IsTaken (map string_bytes words.now)) }
+    ensures absent { IfOk result (λ reply. IfAbsent reply.outcome (IsTaken (map string_bytes words.now))) }
+    ensures held { D.held depot.new ≡ D.held depot.old }
+{
+    match answer(alloc, words, depot) {
+        Ok(text) => Ok(Reply {
+            outcome: Outcome::Done,
+            text,
+        }),
+        Err(Outcome::Memory) => Err(AllocError),
+        Err(outcome) => {
+            let text = line_of_refusal(alloc, &outcome)?;
+            Ok(Reply { outcome, text })
+        }
+    }
+}
+
+/// Writes the whole text of a reply.
+fn write<S: Sink>(reply: Reply, out: &mut S) -> Outcome
+    requires { HasText reply.outcome }
+    ensures written { result ≡ reply.outcome → Appended (S.written out.old) (S.written out.new) (string_bytes reply.text) }
+    ensures cut_short { result ≡ Outcome.WriteFault → AppendedPart (S.written out.old) (S.written out.new) (string_bytes reply.text) }
+    ensures write_fault { result ≡ Outcome.WriteFault → Rose (S.faults out.old) (S.faults out.new) }
+    ensures either { (result ≡ reply.outcome) ⊎ (result ≡ Outcome.WriteFault) }
+{
+    match send(out, reply.text.as_bytes()) {
+        Ok(()) => reply.outcome,
+        Err(WriteFault) => Outcome::WriteFault,
+    }
+}
