@@ -24,7 +24,8 @@ pub record IsOfNineDigits (n : ℤ) : Type 0 where
   pub low : negsuc 999999998 ≤ℤ n
   pub high : n ≤ℤ pos 999999999
 
-abbrev pub both : Option ℤ → Option ℤ → Option (ℤ × ℤ)
+-- both values, where there are both
+abbrev pub both : {A B : Type 0} → Option A → Option B → Option (A × B)
 both (Some x) (Some y) = Some (x, y)
 both _ _ = None
 

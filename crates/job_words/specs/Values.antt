@@ -1,16 +1,12 @@
 -- What the value of an option writes, and the defaults.
-use Rattle.std.specs.Prelude.{ℕ, Bool, ◌&&◌, if◌then◌else◌, Option, Some, None, List, codes, ℤ, pos, negsuc, int_le, nat_abs, option_and_then}
+use Rattle.std.specs.Prelude.{ℕ, ◌&&◌, if◌then◌else◌, Option, Some, None, List, codes, ℤ, pos, int_le, nat_abs, option_and_then}
 use Rattle.std.specs.Str.{bytes_eq}
-use Rattle.grid_num.specs.Whole.{whole_of, pair_of}
+use Rattle.grid_num.specs.Whole.{whole_of, both, pair_of}
 use Rattle.grid_num.specs.declared.units.Units.{Units}
 use Rattle.grid_num.specs.declared.units.Units.TheVariants.{Mm10, Mm100, Mm1000, In100, In1000}
-use Rattle.plane_exact.specs.Plane.{GridPoint}
+use Rattle.plane_exact.specs.Plane.{GridPoint, is_coordinate}
 use Rattle.job_words.specs.declared.request.FormWord.{FormWord}
 use Rattle.job_words.specs.declared.request.FormWord.TheVariants.{Loops}
-
--- from -32,768 to 32,767
-abbrev pub is_coordinate : ℤ → Bool
-is_coordinate z = int_le (negsuc 32767) z && int_le z (pos 32767)
 
 abbrev pub on_grid : ℤ × ℤ → Option GridPoint
 on_grid (x, y) = if is_coordinate x && is_coordinate y then Some (record { x = x; y = y }) else None
@@ -25,10 +21,6 @@ from_one_to most z = if int_le (pos 1) z && int_le z (pos most) then Some (nat_a
 
 abbrev pub number_of : ℕ → List ℕ → Option ℕ
 number_of most text = option_and_then (from_one_to most) (whole_of text)
-
-abbrev pub both : Option ℕ → Option ℕ → Option (ℕ × ℕ)
-both (Some a) (Some b) = Some (a, b)
-both _ _ = None
 
 abbrev pub both_to_2000 : ℤ × ℤ → Option (ℕ × ℕ)
 both_to_2000 (sn, sd) = both (from_one_to 2000 sn) (from_one_to 2000 sd)

@@ -1,9 +1,9 @@
 -- The loops form of a drawing: a loop a line, its points x,y in words. The drawing of a text, or its first fault.
-use Rattle.std.specs.Prelude.{ℕ, ◌-◌, Bool, true, false, not, ◌&&◌, if◌then◌else◌, Option, Some, None, List, [], ◌∷◌, ◌++◌, length, map, filter, ℤ, pos, negsuc, int_le, nat_eq, ◌==◌, Result, Ok, Err}
+use Rattle.std.specs.Prelude.{ℕ, ◌-◌, Bool, true, false, not, ◌&&◌, if◌then◌else◌, Option, Some, None, List, [], ◌∷◌, ◌++◌, length, map, filter, ℤ, nat_eq, ◌==◌, Result, Ok, Err}
 use Rattle.grid_num.specs.Judging.{and_then}
 use Rattle.grid_num.specs.Pieces.{Piece, lines_of, words_of}
 use Rattle.grid_num.specs.Whole.{pair_of}
-use Rattle.plane_exact.specs.Plane.{GridPoint}
+use Rattle.plane_exact.specs.Plane.{GridPoint, is_coordinate}
 use Rattle.engrave_model.specs.Drawing.{most_edges}
 use Rattle.loops_text.specs.Edges.{same_point}
 use Rattle.loops_text.specs.declared.reader.LoopsFault.{LoopsFault}
@@ -26,9 +26,6 @@ loop_lines text = filter (λ words. not (is_skipped words)) (map words_of (lines
 -- a fault of the word
 abbrev pub fault_at : {A : Type 0} → Piece → LoopsKind → Result A LoopsFault
 fault_at word kind = Err (record { at = word.at; kind = kind })
-
-abbrev pub is_coordinate : ℤ → Bool
-is_coordinate z = int_le (negsuc 32767) z && int_le z (pos 32767)
 
 -- the point that a word writes: two whole numbers with a comma (44) between them
 abbrev pub point_of : Piece → Result GridPoint LoopsFault

@@ -1,5 +1,5 @@
 -- Points of the plane: grid points, rational points, and the points of a segment.
-use Rattle.std.specs.Prelude.{◌≡◌, ℤ, pos, negsuc, ◌+ℤ◌, ◌-ℤ◌, ◌*ℤ◌, ◌≤ℤ◌}
+use Rattle.std.specs.Prelude.{◌≡◌, Bool, ◌&&◌, ℤ, pos, negsuc, int_le, ◌+ℤ◌, ◌-ℤ◌, ◌*ℤ◌, ◌≤ℤ◌}
 
 -- a point of the grid, in grid units
 pub record GridPoint : Type 0 where
@@ -10,6 +10,10 @@ pub record GridPoint : Type 0 where
 pub record IsCoordinate (z : ℤ) : Type 0 where
   pub low : negsuc 32767 ≤ℤ z
   pub high : z ≤ℤ pos 32767
+
+-- the same as a test
+abbrev pub is_coordinate : ℤ → Bool
+is_coordinate z = int_le (negsuc 32767) z && int_le z (pos 32767)
 
 -- both numbers are coordinates
 pub record IsOnGrid (x y : ℤ) : Type 0 where
