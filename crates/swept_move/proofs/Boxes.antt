@@ -1,9 +1,10 @@
 -- How far the bit stays from an edge that lies beside the path.
-use Rattle.std.proofs.Common.{inl, inr, ℤ, pos, ◌+ℤ◌, ◌-ℤ◌, ◌*ℤ◌, ◌≤ℤ◌, neg_ℤ, [], ◌∷◌, arith}
-use Rattle.std.proofs.lemmas.Int.{ints}
+use Rattle.std.proofs.Common.{◌≡◌, ◌↔◌, inl, inr, ℕ, ℤ, pos, ◌+ℤ◌, ◌-ℤ◌, ◌*ℤ◌, ◌≤ℤ◌, neg_ℤ, [], ◌∷◌, arith, subst}
+use Rattle.std.proofs.lemmas.Int.{ints, by_lt_z}
 use Rattle.integer_algebra.proofs.Ring.{ring, V, M, ◌⊕◌, ◌⊖◌, ◌⊗◌}
 use Rattle.integer_algebra.proofs.Order.{square_nonneg, square_le, times_nonneg, times_le}
-use Rattle.swept_move.specs.Beside.{AreApart, IsSpan}
+use Rattle.plane_exact.specs.Plane.{GridPoint}
+use Rattle.swept_move.specs.Beside.{AreApart, AreBelow, AreBeside, IsSpan}
 use Rattle.swept_move.proofs.Hits.{away, deep}
 use Rattle.swept_move.proofs.Leaving.{IsPlace}
 
@@ -76,19 +77,71 @@ module _ (r N x y : ℤ) (wide : pos 0 ≤ℤ (N *ℤ r)) where
   long_on : (N *ℤ r) ≤ℤ x → ((N *ℤ r) *ℤ (N *ℤ r)) ≤ℤ (x *ℤ x +ℤ y *ℤ y)
   long_on h = let p = square_le (N *ℤ r) x wide h in let q = square_nonneg y in omega (arith, ints)
 
-module _ (r low high bottom top f g a b : ℤ) (some : pos 0 ≤ℤ r) (path : IsSpan low high f g) (edge : IsSpan bottom top a b) where
-  pub long_way : AreApart r low high bottom top → (S T N y : ℤ) → IsPlace S T N
-      → (let x = away (f -ℤ a) (g -ℤ f) (b -ℤ a) S T N in ((N *ℤ r) *ℤ (N *ℤ r)) ≤ℤ (x *ℤ x +ℤ y *ℤ y))
-  long_way apart S T N y place =
-      let some_over = place.some in
-      let wide = times_nonneg N r (omega (arith, ints)) some in
-      let f_low = path.a_low in
-      let g_low = path.b_low in
+-- two numbers that are below two others keep that distance on every place between
+all_before : (r f g a b S T N : ℤ) → AreBelow r f g a b → IsPlace S T N → (N *ℤ r) ≤ℤ neg_ℤ (away (f -ℤ a) (g -ℤ f) (b -ℤ a) S T N)
+all_before r f g a b S T N below place =
+    by_lt_z f g
+    (λ rising. before_by r g f g a b S T N (omega (arith, ints)) (omega (arith, ints)) below.b_c below.b_d place)
+    (λ falling. before_by r f f g a b S T N (omega (arith, ints)) falling below.a_c below.a_d place)
+
+all_behind : (r f g a b S T N : ℤ) → AreBelow r a b f g → IsPlace S T N → (N *ℤ r) ≤ℤ away (f -ℤ a) (g -ℤ f) (b -ℤ a) S T N
+all_behind r f g a b S T N above place =
+    by_lt_z f g
+    (λ rising. behind_by r f f g a b S T N (omega (arith, ints)) (omega (arith, ints)) above.a_c above.b_c place)
+    (λ falling. behind_by r g f g a b S T N falling (omega (arith, ints)) above.a_d above.b_d place)
+
+pub long_way : (r f g a b : ℤ) → pos 0 ≤ℤ r → AreBeside r f g a b → (S T N y : ℤ) → IsPlace S T N
+    → (let x = away (f -ℤ a) (g -ℤ f) (b -ℤ a) S T N in ((N *ℤ r) *ℤ (N *ℤ r)) ≤ℤ (x *ℤ x +ℤ y *ℤ y))
+long_way r f g a b some beside S T N y place =
+    let some_over = place.some in
+    let wide = times_nonneg N r (omega (arith, ints)) some in
+    elim beside [
+      | inl below ↦ long_back r N _ y wide (all_before r f g a b S T N below place)
+      | inr above ↦ long_on r N _ y wide (all_behind r f g a b S T N above place)
+    ]
+
+-- ---- a gap between two ranges is a gap between all their ends
+
+module _ (r low high bottom top f g a b : ℤ) (path : IsSpan low high f g) (edge : IsSpan bottom top a b) where
+  below_all : (high +ℤ r) ≤ℤ bottom → AreBelow r f g a b
+  below_all gap =
+      let f_high = path.a_high in
+      let g_high = path.b_high in
       let a_low = edge.a_low in
       let b_low = edge.b_low in
-      let a_high = edge.a_high in
-      let b_high = edge.b_high in
-      elim apart [
-        | inl before ↦ long_back r N _ y wide (before_by r high f g a b S T N path.a_high path.b_high (omega (arith, ints)) (omega (arith, ints)) place)
-        | inr behind ↦ long_on r N _ y wide (behind_by r low f g a b S T N f_low g_low (omega (arith, ints)) (omega (arith, ints)) place)
-      ]
+      record { a_c = omega (arith, ints); a_d = omega (arith, ints); b_c = omega (arith, ints); b_d = omega (arith, ints) }
+
+  gap_below : AreBelow r f g a b → (high +ℤ r) ≤ℤ bottom
+  gap_below below =
+      let f_a = below.a_c in
+      let f_b = below.a_d in
+      let g_a = below.b_c in
+      let g_b = below.b_d in
+      let under_a = path.highest (a -ℤ r) (omega (arith, ints)) (omega (arith, ints)) in
+      let under_b = path.highest (b -ℤ r) (omega (arith, ints)) (omega (arith, ints)) in
+      edge.lowest (high +ℤ r) (omega (arith, ints)) (omega (arith, ints))
+
+apart_is_beside : (r low high bottom top f g a b : ℤ) → IsSpan low high f g → IsSpan bottom top a b → AreApart r low high bottom top ↔ AreBeside r f g a b
+apart_is_beside r low high bottom top f g a b path edge = (
+  (λ apart. elim apart [
+    | inl gap ↦ inl (below_all r low high bottom top f g a b path edge gap)
+    | inr gap ↦ inr (below_all r bottom top low high a b f g edge path gap)
+  ]),
+  (λ beside. elim beside [
+    | inl below ↦ inl (gap_below r low high bottom top f g a b path edge below)
+    | inr above ↦ inr (gap_below r bottom top low high a b f g edge path above)
+  ]),
+)
+
+-- The ranges of a path from p to q, and of an edge from a to b, along one axis: what tests that they are apart tests that the
+-- ends are beside each other.
+pub tested_is_beside : (axis : GridPoint → ℤ) (a b : GridPoint) {T : Type 0} {n r : ℕ} {low high bottom top : ℤ} {p q f g : GridPoint} → n ≡ r → p ≡ f → q ≡ g
+    → IsSpan low high (axis p) (axis q) → IsSpan bottom top (axis a) (axis b) → T ↔ AreApart (pos n) low high bottom top
+    → T ↔ AreBeside (pos r) (axis f) (axis g) (axis a) (axis b)
+tested_is_beside axis a b {T = T} {low = low} {high = high} {bottom = bottom} {top = top} {q = q} {f = f} at_r at_f at_g path edge test =
+    let at_rmax = subst (λ (d : ℕ). T ↔ AreApart (pos d) low high bottom top) at_r test in
+    let at_path = subst (λ (z : GridPoint). IsSpan low high (axis f) (axis z)) at_g (subst (λ (z : GridPoint). IsSpan low high (axis z) (axis q)) at_f path) in
+    let same = apart_is_beside _ low high bottom top _ _ _ _ at_path edge in (
+      (λ t. same.0 (at_rmax.0 t)),
+      (λ beside. at_rmax.1 (same.1 beside)),
+    )

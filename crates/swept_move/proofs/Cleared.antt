@@ -16,7 +16,7 @@ use Rattle.swept_move.proofs.Leaving.{IsPlace, turned_away, turned_product}
 use Rattle.swept_move.proofs.Border.{margin_value}
 use Rattle.swept_move.proofs.Removing.{near_there}
 use Rattle.swept_move.proofs.Swept.{pass_of, at_start, at_finish, at_a, at_b, depth_start, depth_finish, meets_x, meets_y, meeting_s, meeting_t, meeting_n, path_parted, edge_parted, no_square}
-use Rattle.swept_move.specs.Beside.{AreApart, IsSpan}
+use Rattle.swept_move.specs.Beside.{IsBeside}
 use Rattle.swept_move.proofs.Boxes.{long_way, far_by, reaches, deep_nonneg}
 
 -- ---- an end of the move
@@ -127,8 +127,8 @@ module _ (cone : Cone) (mv : Move) (e : Seg) (narrow : ¬ IsTooDeep cone mv) (so
   p = pass_of cone mv e
 
   -- no way from the edge to the path is shorter than the greatest radius
-  abbrev IsBeside : Type 0
-  IsBeside =
+  abbrev KeepsAway : Type 0
+  KeepsAway =
       (S T N : ℤ) → IsPlace S T N → (
       let x = away p.ex p.qx p.dx S T N in
       let y = away p.ey p.qy p.dy S T N in
@@ -141,28 +141,28 @@ module _ (cone : Cone) (mv : Move) (e : Seg) (narrow : ¬ IsTooDeep cone mv) (so
   narrow_finish = by_lt_z (pos cone.sd *ℤ pos cone.rmax) (pos cone.sn *ℤ pos (depth_of mv.to.h)) (λ l. absurd (narrow (inr (omega (arith, ints))))) (λ l. l)
 
   -- so no disc reaches it
-  off : IsBeside → (S T N : ℤ) → IsPlace S T N → (
+  off : KeepsAway → (S T N : ℤ) → IsPlace S T N → (
       let x = away p.ex p.qx p.dx S T N in
       let y = away p.ey p.qy p.dy S T N in
       let depth = deep p.z p.sinks S N in
       (p.R *ℤ (depth *ℤ depth)) ≤ℤ (p.Q *ℤ (x *ℤ x +ℤ y *ℤ y)))
-  off beside S T N place =
+  off kept S T N place =
       far_by (pos cone.sn) (pos cone.sd) (N *ℤ pos cone.rmax) _ _ (deep p.z p.sinks S N) (let h : pos 0 ≤ℤ pos cone.sn = omega (arith, ints) in h)
       (deep_nonneg (pos (depth_of mv.from.h)) (pos (depth_of mv.to.h)) S N (omega (arith, ints)) (omega (arith, ints)) place.start place.finish)
       (reaches (pos cone.sn) (pos cone.sd) (pos cone.rmax) (pos (depth_of mv.from.h)) (pos (depth_of mv.to.h)) S N narrow_start narrow_finish place.start place.finish)
-      (beside S T N place)
+      (kept S T N place)
 
-  never_meets : IsBeside → (S T N : ℤ) → IsMeeting p S T N → IsPlace S T N → ⊥
-  never_meets beside S T N meeting place =
+  never_meets : KeepsAway → (S T N : ℤ) → IsMeeting p S T N → IsPlace S T N → ⊥
+  never_meets kept S T N meeting place =
       let some_over = place.some in
       let wide = times_pos N (pos cone.rmax) (omega (arith, ints)) (omega (arith, ints)) in
       let square_wide = times_pos (N *ℤ pos cone.rmax) (N *ℤ pos cone.rmax) wide wide in
-      let long = beside S T N place in
+      let long = kept S T N place in
       let none = ap₂ (λ x y. x *ℤ x +ℤ y *ℤ y) meeting.across meeting.up in
       omega (arith, ints)
 
-  passes_beside : IsBeside → PassesEdge cone mv e
-  passes_beside beside =
+  far_passes : KeepsAway → PassesEdge cone mv e
+  far_passes kept =
       let f = mv.from.at in
       let g = mv.to.at in
       let a = e.a in
@@ -177,29 +177,28 @@ module _ (cone : Cone) (mv : Move) (e : Seg) (narrow : ¬ IsTooDeep cone mv) (so
       record {
         start = end_kept cone f (depth_of mv.from.h) e (λ T N from to over.
             moved _ _ _ _ _ _ (at_start f.x g.x a.x b.x T N) (at_start f.y g.y a.y b.y T N) (depth_start z z' N)
-            (off beside (pos 0) T N (record { start = record { le = tt }; finish = omega (arith, ints); a = from; b = to; some = over })));
+            (off kept (pos 0) T N (record { start = record { le = tt }; finish = omega (arith, ints); a = from; b = to; some = over })));
         finish = end_kept cone g (depth_of mv.to.h) e (λ T N from to over.
             moved _ _ _ _ _ _ (at_finish f.x g.x a.x b.x T N) (at_finish f.y g.y a.y b.y T N) (depth_finish z z' N)
-            (off beside N T N (record { start = omega (arith, ints); finish = omega (arith, ints); a = from; b = to; some = over })));
+            (off kept N T N (record { start = omega (arith, ints); finish = omega (arith, ints); a = from; b = to; some = over })));
         corner_a = corner_kept cone mv a (λ S N from to over.
             moved _ _ _ _ _ _ (at_a f.x g.x a.x b.x S N) (at_a f.y g.y a.y b.y S N) refl
-            (off beside S (pos 0) N (record { start = from; finish = to; a = record { le = tt }; b = omega (arith, ints); some = over })));
+            (off kept S (pos 0) N (record { start = from; finish = to; a = record { le = tt }; b = omega (arith, ints); some = over })));
         corner_b = corner_kept cone mv b (λ S N from to over.
             moved _ _ _ _ _ _ (at_b f.x g.x a.x b.x S N) (at_b f.y g.y a.y b.y S N) refl
-            (off beside S N N (record { start = from; finish = to; a = omega (arith, ints); b = omega (arith, ints); some = over })));
-        apart = not_crossing cone mv e (never_meets beside);
+            (off kept S N N (record { start = from; finish = to; a = omega (arith, ints); b = omega (arith, ints); some = over })));
+        apart = not_crossing cone mv e (never_meets kept);
       }
 
-  module _ (low high bottom top : ℤ) (apart : AreApart (pos cone.rmax) low high bottom top) where
-    pub passes_across : IsSpan low high mv.from.at.x mv.to.at.x → IsSpan bottom top e.a.x e.b.x → PassesEdge cone mv e
-    passes_across path edge =
-        passes_beside (λ S T N place.
-        long_way (pos cone.rmax) low high bottom top mv.from.at.x mv.to.at.x e.a.x e.b.x (omega (arith, ints)) path edge apart S T N (away p.ey p.qy p.dy S T N) place)
-
-    pub passes_up : IsSpan low high mv.from.at.y mv.to.at.y → IsSpan bottom top e.a.y e.b.y → PassesEdge cone mv e
-    passes_up path edge =
-        passes_beside (λ S T N place.
-        let x = away p.ex p.qx p.dx S T N in
-        let y = away p.ey p.qy p.dy S T N in
-        let long = long_way (pos cone.rmax) low high bottom top mv.from.at.y mv.to.at.y e.a.y e.b.y (omega (arith, ints)) path edge apart S T N x place in
-        omega (arith, ints))
+  pub beside_passes : IsBeside cone mv e → PassesEdge cone mv e
+  beside_passes beside =
+      let f = mv.from.at in
+      let g = mv.to.at in
+      let r = pos cone.rmax in
+      far_passes (λ S T N place.
+      let x = away p.ex p.qx p.dx S T N in
+      let y = away p.ey p.qy p.dy S T N in
+      elim beside [
+        | inl across ↦ long_way r f.x g.x e.a.x e.b.x (omega (arith, ints)) across S T N y place
+        | inr up ↦ (let long = long_way r f.y g.y e.a.y e.b.y (omega (arith, ints)) up S T N x place in omega (arith, ints))
+      ])

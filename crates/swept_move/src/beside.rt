@@ -2,7 +2,7 @@
 ghost use Rattle.std.specs.Prelude.{◌↔◌, ◌≤◌, pos, IsTrue};
 ghost use Rattle.plane_exact.specs.Plane.{IsCoordinate};
 ghost use Rattle.engrave_model.specs.Clear.{IsTooDeep, PassesEdge};
-ghost use Rattle.swept_move.specs.Beside.{AreApart, IsSpan};
+ghost use Rattle.swept_move.specs.Beside.{AreApart, IsBeside, IsSpan};
 
 use crate::tip::point;
 use plane_exact::bit::Bit;
@@ -13,7 +13,8 @@ use plane_exact::point::{Point, Seg};
 // It takes no product, and holds of most edges of a drawing.
 pub fn is_beside(mv: &Move, bit: &Bit, s: &Seg) -> bool
     requires { ¬ IsTooDeep bit.now mv.now }
-    ensures { IsTrue result → PassesEdge bit.now mv.now s.now }
+    ensures beside { IsTrue result ↔ IsBeside bit.now mv.now s.now }
+    ensures passes { IsTrue result → PassesEdge bit.now mv.now s.now }
 {
     let from = point(&mv.from);
     let to = point(&mv.to);

@@ -1,25 +1,31 @@
-use Rattle.std.proofs.Common.{ℕ, pos, subst}
+-- Answers the goals of `is_beside`.
+use Rattle.std.proofs.Common.{inl, inr}
 use Rattle.plane_exact.specs.Plane.{GridPoint}
-use Rattle.swept_move.specs.Beside.{AreApart, IsSpan}
-use Rattle.swept_move.proofs.Cleared.{passes_across, passes_up}
+use Rattle.swept_move.proofs.Boxes.{tested_is_beside}
+use Rattle.swept_move.proofs.Cleared.{beside_passes}
 use Rattle.swept_move.proofs.beside.is_beside.Goals as goal
 
 pub returns-then-is_apart : goal.returns-then-is_apart
-returns-then-is_apart c t =
-    let path = c.across.result in
-    let edge = c.across-2.result in
-    passes_across c.args.bit.now c.args.mv.now c.args.s.now c.requires c.rmax.ensures.range.widest.low path.low path.high edge.low edge.high
-    (subst (λ (r : ℕ). AreApart (pos r) path.low path.high edge.low edge.high) c.rmax.ensures.value (c.is_apart.ensures.0 t))
-    (subst (λ (q : GridPoint). IsSpan path.low path.high c.args.mv.now.from.at.x q.x) c.point-to.ensures
-    (subst (λ (p : GridPoint). IsSpan path.low path.high p.x c.point-to.result.x) c.point-from.ensures c.across.ensures))
-    c.across-2.ensures
+returns-then-is_apart c =
+    let across = tested_is_beside (λ (p : GridPoint). p.x) c.args.s.now.a c.args.s.now.b c.rmax.ensures.value c.point-from.ensures c.point-to.ensures c.across.ensures c.across-2.ensures c.is_apart.ensures in
+    record {
+      beside = (
+        (λ t. inl (across.0 t)),
+        (λ beside. c.if-is_apart.true),
+      );
+      passes = λ t. beside_passes c.args.bit.now c.args.mv.now c.args.s.now c.requires c.rmax.ensures.range.widest.low (inl (across.0 t));
+    }
 
 pub returns-else-is_apart : goal.returns-else-is_apart
-returns-else-is_apart c t =
-    let path = c.up.result in
-    let edge = c.up-else-is_apart.result in
-    passes_up c.args.bit.now c.args.mv.now c.args.s.now c.requires c.rmax.ensures.range.widest.low path.low path.high edge.low edge.high
-    (subst (λ (r : ℕ). AreApart (pos r) path.low path.high edge.low edge.high) c.rmax-else-is_apart.ensures.value (c.is_apart-else-is_apart.ensures.0 t))
-    (subst (λ (q : GridPoint). IsSpan path.low path.high c.args.mv.now.from.at.y q.y) c.point-to.ensures
-    (subst (λ (p : GridPoint). IsSpan path.low path.high p.y c.point-to.result.y) c.point-from.ensures c.up.ensures))
-    c.up-else-is_apart.ensures
+returns-else-is_apart c =
+    let across = tested_is_beside (λ (p : GridPoint). p.x) c.args.s.now.a c.args.s.now.b c.rmax.ensures.value c.point-from.ensures c.point-to.ensures c.across.ensures c.across-2.ensures c.is_apart.ensures in
+    let up =
+    tested_is_beside (λ (p : GridPoint). p.y) c.args.s.now.a c.args.s.now.b c.rmax-else-is_apart.ensures.value c.point-from.ensures c.point-to.ensures c.up.ensures c.up-else-is_apart.ensures
+    c.is_apart-else-is_apart.ensures in
+    record {
+      beside = (
+        (λ t. inr (up.0 t)),
+        (λ any. elim any [ inl beside ↦ absurd (let yes = across.1 beside in let no = c.if-is_apart.false in cc) | inr beside ↦ up.1 beside ]),
+      );
+      passes = λ t. beside_passes c.args.bit.now c.args.mv.now c.args.s.now c.requires c.rmax.ensures.range.widest.low (inr (up.0 t));
+    }

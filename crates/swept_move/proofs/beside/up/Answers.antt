@@ -1,3 +1,4 @@
+-- Answers the goals of `up`.
 use Rattle.std.proofs.Common.{arith}
 use Rattle.std.proofs.lemmas.Int.{ints, clamps}
 use Rattle.swept_move.proofs.beside.up.Goals as goal
@@ -10,4 +11,12 @@ invariant_of-result c =
     }
 
 pub returns : goal.returns
-returns c = record { a_low = omega (arith, ints, clamps); b_low = omega (arith, ints, clamps); a_high = omega (arith, ints, clamps); b_high = omega (arith, ints, clamps) }
+returns c =
+    record {
+      a_low = omega (arith, ints, clamps);
+      b_low = omega (arith, ints, clamps);
+      a_high = omega (arith, ints, clamps);
+      b_high = omega (arith, ints, clamps);
+      lowest = λ m a b. omega (arith, ints, clamps);
+      highest = λ m a b. omega (arith, ints, clamps);
+    }

@@ -1,3 +1,4 @@
+-- Answers the goals of `Span::is_apart`.
 use Rattle.std.proofs.Common.{inl, inr}
 use Rattle.swept_move.proofs.Narrow.{gap_test}
 use Rattle.swept_move.proofs.beside.Span.is_apart.Goals as goal
