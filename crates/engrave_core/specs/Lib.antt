@@ -1,4 +1,6 @@
+-- The definitions of the crate.
 pub mod Due
 pub mod Line
 pub mod Outcome
+pub mod Refusals
 pub mod Top

@@ -1,10 +1,11 @@
 // What each command answers: the text that it writes, or the refusal.
-ghost use Rattle.std.specs.Prelude.{◌≡◌, Some, IfOk, IfErr, IfSome, MatchResult, map, string_bytes};
+ghost use Rattle.std.specs.Prelude.{◌≡◌, ◌⊎◌, Some, IfOk, IfErr, IfSome, MatchResult, map, string_bytes};
 ghost use Rattle.plane_exact.specs.Cone.{IsCone, IsFromOneTo};
-ghost use Rattle.job_words.specs.Request.{IsInRange};
+ghost use Rattle.job_words.specs.Request.{IsInRange, request_of};
 ghost use Rattle.engrave_core.specs.Due.{IsDue, IsChecked, IsDueOfCheck, IsDueOfCommand, clear_line, IsGivenBy, IsListed, IsProbed, IsProbeText, cone_of, held_code, held_drawing};
 ghost use Rattle.engrave_core.specs.Line.{line_of};
-ghost use Rattle.engrave_core.specs.Outcome.{IfAnswered, IfAbsent, IsFaultOfFiles, IsNoText, IsOfRequest, IsVerdictOrMemory};
+ghost use Rattle.engrave_core.specs.Outcome.{IfAnswered};
+ghost use Rattle.engrave_core.specs.Refusals.{IsRefusalOfHeldCode, IsRefusalOfHeldDrawing, IsRefusalOfMoves, IsRefusalOfRequest, IsRefusalOfWords};
 ghost use Rattle.engrave_core.specs.Top.{IsCaused, IsTaken};
 
 use crate::files::{load_code, load_drawing};
@@ -28,11 +29,10 @@ pub fn answer<D: Depot>(alloc: Global, words: &[String], depot: &mut D) -> Resul
     ensures told { IfSome (D.held depot.old) (λ files. MatchResult result
         (λ text. IsDue (map string_bytes words.now) files Outcome.Done (string_bytes text))
         (λ refusal. IfAnswered refusal (IsDue (map string_bytes words.now) files refusal (line_of refusal)))) }
-    ensures refusal { IfErr result IsNoText }
+    ensures refusal { IfErr result (IsRefusalOfWords (request_of (map string_bytes words.now))) }
     ensures caused { IfErr result (IsCaused (D.faults depot.old) (D.faults depot.new) (D.misses depot.old) (D.misses depot.new)) }
-    ensures usage { IfErr result (λ refusal. refusal ≡ Outcome.Usage → ¬ IsTaken (map string_bytes words.now)) }
-    ensures read_fault { IfErr result (λ refusal. refusal ≡ Outcome.ReadFault → IsTaken (map string_bytes words.now)) }
-    ensures absent { IfErr result (λ refusal. IfAbsent refusal (IsTaken (map string_bytes words.now))) }
+    ensures made { IfOk result (λ _. IsTaken (map string_bytes words.now)) }
+    ensures untouched { ¬ IsTaken (map string_bytes words.now) → depot.new ≡ depot.old }
     ensures held { D.held depot.new ≡ D.held depot.old }
 {
     match read_words(alloc, words) {
@@ -48,7 +48,7 @@ fn run<D: Depot>(alloc: Global, request: &Request, depot: &mut D) -> Result<Stri
     ensures told { IfSome (D.held depot.old) (λ files. MatchResult result
         (λ text. IsDueOfCommand files request.now Outcome.Done (string_bytes text))
         (λ refusal. IfAnswered refusal (IsDueOfCommand files request.now refusal (line_of refusal)))) }
-    ensures refusal { IfErr result IsOfRequest }
+    ensures refusal { IfErr result (IsRefusalOfRequest request.now) }
     ensures caused { IfErr result (IsCaused (D.faults depot.old) (D.faults depot.new) (D.misses depot.old) (D.misses depot.new)) }
     ensures held { D.held depot.new ≡ D.held depot.old }
 {
@@ -93,7 +93,7 @@ fn probe<D: Depot>(
     ensures told { IfSome (D.held depot.old) (λ files. MatchResult result
         (λ text. IsGivenBy (IsProbed at (cone_of bit rmax) limit) (held_drawing files drawing.now) Outcome.Done (string_bytes text))
         (λ refusal. IfAnswered refusal (IsGivenBy (IsProbed at (cone_of bit rmax) limit) (held_drawing files drawing.now) refusal (line_of refusal)))) }
-    ensures refusal { IfErr result IsFaultOfFiles }
+    ensures refusal { IfErr result IsRefusalOfHeldDrawing }
     ensures caused { IfErr result (IsCaused (D.faults depot.old) (D.faults depot.new) (D.misses depot.old) (D.misses depot.new)) }
     ensures held { D.held depot.new ≡ D.held depot.old }
 {
@@ -131,7 +131,7 @@ fn moves<D: Depot>(
     ensures told { IfSome (D.held depot.old) (λ files. MatchResult result
         (λ text. IsGivenBy IsListed (held_code files units code.now) Outcome.Done (string_bytes text))
         (λ refusal. IfAnswered refusal (IsGivenBy IsListed (held_code files units code.now) refusal (line_of refusal)))) }
-    ensures refusal { IfErr result IsFaultOfFiles }
+    ensures refusal { IfErr result IsRefusalOfHeldCode }
     ensures caused { IfErr result (IsCaused (D.faults depot.old) (D.faults depot.new) (D.misses depot.old) (D.misses depot.new)) }
     ensures held { D.held depot.new ≡ D.held depot.old }
 {
@@ -155,7 +155,7 @@ fn check<D: Depot>(
     ensures told { IfSome (D.held depot.old) (λ files. MatchResult result
         (λ text. IsDueOfCheck files shape.now.drawing shape.now.units code.now (cone_of bit rmax) Outcome.Done (string_bytes text))
         (λ refusal. IfAnswered refusal (IsDueOfCheck files shape.now.drawing shape.now.units code.now (cone_of bit rmax) refusal (line_of refusal)))) }
-    ensures refusal { IfErr result IsOfRequest }
+    ensures refusal { IfErr result (λ refusal. IsRefusalOfHeldDrawing refusal ⊎ (IsRefusalOfHeldCode refusal ⊎ IsRefusalOfMoves refusal)) }
     ensures caused { IfErr result (IsCaused (D.faults depot.old) (D.faults depot.new) (D.misses depot.old) (D.misses depot.new)) }
     ensures held { D.held depot.new ≡ D.held depot.old }
 {
@@ -179,7 +179,7 @@ fn check_moves(
     ensures told { MatchResult result
         (λ text. IsChecked bit.now drawing moves.now Outcome.Done (string_bytes text))
         (λ refusal. IfAnswered refusal (IsChecked bit.now drawing moves.now refusal (line_of refusal))) }
-    ensures refusal { IfErr result IsVerdictOrMemory }
+    ensures refusal { IfErr result IsRefusalOfMoves }
 {
     let Ok(scene) = Scene::new(alloc, drawing) else {
         return Err(Outcome::Memory);

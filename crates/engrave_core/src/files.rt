@@ -1,7 +1,8 @@
 // The files that a command names: loaded and read, or refused.
 ghost use Rattle.std.specs.Prelude.{◌≡◌, ◌≤◌, length, Ok, Err, IfOk, IfErr, IfSome, MatchResult};
 ghost use Rattle.engrave_core.specs.Due.{bytes_of, code_of, drawing_of, held_code, held_drawing, most_code_bytes, most_drawing_bytes};
-ghost use Rattle.engrave_core.specs.Outcome.{IfAnswered, IsFaultOfFiles, IsFaultOfText};
+ghost use Rattle.engrave_core.specs.Outcome.{IfAnswered};
+ghost use Rattle.engrave_core.specs.Refusals.{IsRefusalOfCode, IsRefusalOfFile, IsRefusalOfHeldCode, IsRefusalOfHeldDrawing, IsRefusalOfLoops};
 ghost use Rattle.engrave_core.specs.Top.{IsCaused};
 
 use crate::outcome::{InputFault, Outcome, Which};
@@ -26,7 +27,7 @@ pub fn load_drawing<D: Depot>(alloc: Global, name: &str, depot: &mut D) -> Resul
     ensures told { IfSome (D.held depot.old) (λ files. MatchResult result
         (λ drawing. held_drawing files name.now ≡ Ok drawing)
         (λ refusal. IfAnswered refusal (held_drawing files name.now ≡ Err refusal))) }
-    ensures refusal { IfErr result IsFaultOfFiles }
+    ensures refusal { IfErr result IsRefusalOfHeldDrawing }
     ensures caused { IfErr result (IsCaused (D.faults depot.old) (D.faults depot.new) (D.misses depot.old) (D.misses depot.new)) }
     ensures held { D.held depot.new ≡ D.held depot.old }
     ensures faults { D.faults depot.old ≤ D.faults depot.new }
@@ -47,7 +48,7 @@ pub fn load_code<D: Depot>(
     ensures told { IfSome (D.held depot.old) (λ files. MatchResult result
         (λ moves. held_code files units name.now ≡ Ok moves.items)
         (λ refusal. IfAnswered refusal (held_code files units name.now ≡ Err refusal))) }
-    ensures refusal { IfErr result IsFaultOfFiles }
+    ensures refusal { IfErr result IsRefusalOfHeldCode }
     ensures caused { IfErr result (IsCaused (D.faults depot.old) (D.faults depot.new) (D.misses depot.old) (D.misses depot.new)) }
     ensures held { D.held depot.new ≡ D.held depot.old }
 {
@@ -67,7 +68,7 @@ fn load_file<D: Depot>(
         (λ bytes. bytes_of which cap (files name.now) ≡ Ok bytes.items)
         (λ refusal. IfAnswered refusal (bytes_of which cap (files name.now) ≡ Err refusal))) }
     ensures capped { IfOk result (λ bytes. length bytes.items ≤ cap) }
-    ensures refusal { IfErr result IsFaultOfFiles }
+    ensures refusal { IfErr result (IsRefusalOfFile which) }
     ensures caused { IfErr result (IsCaused (D.faults depot.old) (D.faults depot.new) (D.misses depot.old) (D.misses depot.new)) }
     ensures held { D.held depot.new ≡ D.held depot.old }
     ensures faults { D.faults depot.old ≤ D.faults depot.new }
@@ -89,7 +90,7 @@ fn read_drawing(alloc: Global, bytes: &[u8]) -> Result<Drawing, Outcome>
     ensures told { MatchResult result
         (λ drawing. drawing_of bytes.now ≡ Ok drawing)
         (λ refusal. IfAnswered refusal (drawing_of bytes.now ≡ Err refusal)) }
-    ensures refusal { IfErr result IsFaultOfText }
+    ensures refusal { IfErr result IsRefusalOfLoops }
 {
     match read_loops(alloc, bytes) {
         Ok(drawing) => Ok(drawing),
@@ -110,7 +111,7 @@ fn read_code(alloc: Global, units: Units, bytes: &[u8]) -> Result<Vec<LineMove>,
     ensures told { MatchResult result
         (λ moves. code_of units bytes.now ≡ Ok moves.items)
         (λ refusal. IfAnswered refusal (code_of units bytes.now ≡ Err refusal)) }
-    ensures refusal { IfErr result IsFaultOfText }
+    ensures refusal { IfErr result IsRefusalOfCode }
 {
     match moves_in(alloc, units, bytes) {
         Ok(moves) => Ok(moves),

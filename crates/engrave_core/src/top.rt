@@ -5,7 +5,8 @@ ghost use Rattle.shop_port.specs.Counts.{Rose};
 ghost use Rattle.shop_port.specs.Output.{Appended, AppendedPart};
 ghost use Rattle.engrave_core.specs.Due.{IsDue};
 ghost use Rattle.engrave_core.specs.Line.{line_of};
-ghost use Rattle.engrave_core.specs.Outcome.{IfAnswered, IfRefused, IfAbsent, HasText, IsNoMemoryFault};
+ghost use Rattle.engrave_core.specs.Outcome.{IfAnswered, IfRefused, HasText};
+ghost use Rattle.engrave_core.specs.Refusals.{IsAnswer};
 ghost use Rattle.engrave_core.specs.Top.{IsTaken, WritesDue, WritesPart, WritesPartOfReadFault, IsCaused, IsSafeRun};
 
 use crate::command::answer;
@@ -45,14 +46,12 @@ pub fn engrave<D: Depot, S: Sink>(
         WritesPart (map string_bytes words.now) files (S.written out.old) (S.written out.new)
         ⊎ WritesPartOfReadFault (S.written out.old) (S.written out.new) (D.faults depot.old) (D.faults depot.new)) }
 
-    // Words that aren't taken are answered before any file is read.
-    ensures usage { result ≡ Outcome.Usage → ¬ IsTaken (map string_bytes words.now) }
-    ensures read_fault_taken { result ≡ Outcome.ReadFault → IsTaken (map string_bytes words.now) }
-    ensures absent_taken { IfAbsent result (IsTaken (map string_bytes words.now)) }
+    // The answers that there are to words, whatever the files hold; where the words aren't taken, no file is asked for.
+    ensures answers { IsAnswer (request_of (map string_bytes words.now)) result }
+    ensures untouched { ¬ IsTaken (map string_bytes words.now) → depot.new ≡ depot.old }
 
-    // Want of memory writes nothing, and is told as nothing else.
+    // Want of memory writes nothing.
     ensures memory { result ≡ Outcome.Memory → S.written out.new ≡ S.written out.old }
-    ensures inner { IsNoMemoryFault result }
 
     // Where nothing of the outside failed, the outcome is the one that is due, or memory ran out.
     ensures complete { IfSome (D.held depot.old) (λ files.
@@ -77,11 +76,9 @@ fn decide<D: Depot>(alloc: Global, words: &[String], depot: &mut D) -> Result<Re
         (IsDue (map string_bytes words.now) files reply.outcome (string_bytes reply.text)))) }
     ensures refused { IfOk result (λ reply. IfRefused reply.outcome (string_bytes reply.text ≡ line_of reply.outcome)) }
     ensures writes { IfOk result (λ reply. HasText reply.outcome) }
-    ensures inner { IfOk result (λ reply. IsNoMemoryFault reply.outcome) }
+    ensures answers { IfOk result (λ reply. IsAnswer (request_of (map string_bytes words.now)) reply.outcome) }
     ensures caused { IfOk result (λ reply. IsCaused (D.faults depot.old) (D.faults depot.new) (D.misses depot.old) (D.misses depot.new) reply.outcome) }
-    ensures usage { IfOk result (λ reply. reply.outcome ≡ Outcome.Usage → ¬ IsTaken (map string_bytes words.now)) }
-    ensures read_fault { IfOk result (λ reply. reply.outcome ≡ Outcome.ReadFault → IsTaken (map string_bytes words.now)) }
-    ensures absent { IfOk result (λ reply. IfAbsent reply.outcome (IsTaken (map string_bytes words.now))) }
+    ensures untouched { ¬ IsTaken (map string_bytes words.now) → depot.new ≡ depot.old }
     ensures held { D.held depot.new ≡ D.held depot.old }
 {
     match answer(alloc, words, depot) {
