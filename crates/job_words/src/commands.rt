@@ -13,74 +13,53 @@ pub enum CommandWord {
     Check,
 }
 
-static PROBE: [CommandOption; 7] = [
-    CommandOption {
-        name: "at",
-        required: true,
-    },
-    CommandOption {
-        name: "bit",
-        required: true,
-    },
-    CommandOption {
-        name: "rmax",
-        required: true,
-    },
-    CommandOption {
-        name: "limit",
-        required: false,
-    },
-    CommandOption {
-        name: "drawing",
-        required: true,
-    },
-    CommandOption {
-        name: "form",
-        required: false,
-    },
-    CommandOption {
-        name: "units",
-        required: false,
-    },
-];
+// The options, of which each command has some.
 
-static MOVES: [CommandOption; 2] = [
-    CommandOption {
-        name: "code",
-        required: true,
-    },
-    CommandOption {
-        name: "units",
-        required: false,
-    },
-];
+const AT: CommandOption = CommandOption {
+    name: "at",
+    required: true,
+};
 
-static CHECK: [CommandOption; 6] = [
-    CommandOption {
-        name: "bit",
-        required: true,
-    },
-    CommandOption {
-        name: "rmax",
-        required: true,
-    },
-    CommandOption {
-        name: "drawing",
-        required: true,
-    },
-    CommandOption {
-        name: "form",
-        required: false,
-    },
-    CommandOption {
-        name: "units",
-        required: false,
-    },
-    CommandOption {
-        name: "code",
-        required: true,
-    },
-];
+const BIT: CommandOption = CommandOption {
+    name: "bit",
+    required: true,
+};
+
+const RMAX: CommandOption = CommandOption {
+    name: "rmax",
+    required: true,
+};
+
+const LIMIT: CommandOption = CommandOption {
+    name: "limit",
+    required: false,
+};
+
+const DRAWING: CommandOption = CommandOption {
+    name: "drawing",
+    required: true,
+};
+
+const FORM: CommandOption = CommandOption {
+    name: "form",
+    required: false,
+};
+
+const UNITS: CommandOption = CommandOption {
+    name: "units",
+    required: false,
+};
+
+const CODE: CommandOption = CommandOption {
+    name: "code",
+    required: true,
+};
+
+static PROBE: [CommandOption; 7] = [AT, BIT, RMAX, LIMIT, DRAWING, FORM, UNITS];
+
+static MOVES: [CommandOption; 2] = [CODE, UNITS];
+
+static CHECK: [CommandOption; 6] = [BIT, RMAX, DRAWING, FORM, UNITS, CODE];
 
 impl CommandWord {
     /// The command of this name.
