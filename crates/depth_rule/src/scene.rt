@@ -39,6 +39,7 @@ impl Scene {
         Ok(Scene { drawing, rows })
     }
 
+    /// The drawing, whose edges keep their numbers.
     pub fn drawing(&self) -> &Drawing
         ensures { result.now ≡ self.now }
     {

@@ -30,7 +30,9 @@ pub enum Outcome {
 /// A file that a command names.
 #[derive(Clone, Copy, Debug, PartialEq, Eq)]
 pub enum Which {
+    /// That of `--drawing`.
     Drawing,
+    /// That of `--code`.
     Code,
 }
 

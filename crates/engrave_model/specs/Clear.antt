@@ -45,7 +45,8 @@ abbrev pub dot : ℤ → ℤ → ℤ → ℤ → ℤ
 dot x y v w = x *ℤ v +ℤ y *ℤ w
 
 -- |p0 + s (p1 - p0) - u|^2 sd^2 - sn^2 (z0 + s (z1 - z0))^2, where the move goes from p0 to p1, and from the depth z0
--- to z1: how much farther than the bit's radius the corner u is from the tip at the moment s
+-- to z1, and depths are 0 from the surface up: as a quadratic in the moment s, what the square of the corner's distance
+-- from the tip exceeds that of the bit's radius, times sd^2
 abbrev pub corner_margin : Cone → Move → GridPoint → Quadratic
 corner_margin cone mv u =
     let ex = mv.from.at.x -ℤ u.x in
@@ -93,13 +94,13 @@ pub record PassesEdge (cone : Cone) (mv : Move) (e : Seg) : Type 0 where
 abbrev pub first_deep : Move → GridPoint
 first_deep mv = if nat_lt 0 (depth_of mv.from.h) then mv.from.at else mv.to.at
 
--- a move below the surface that is clear
+-- neither too deep nor slant, every edge passed, and the first deep end inside
 pub record IsClearDeep (edges : List Seg) (cone : Cone) (mv : Move) : Type 0 where
   pub narrow : ¬ IsTooDeep cone mv
   pub straight : ¬ IsSlant mv
   pub passes : All (PassesEdge cone mv) edges
   pub inside : IsInside edges (rational (first_deep mv))
 
--- a move at or above the surface is clear
+-- clear: no end is below the surface, or all of the above holds
 abbrev pub IsClear : List Seg → Cone → Move → Type 0
 IsClear edges cone mv = (¬ IsDeep mv) ⊎ IsClearDeep edges cone mv

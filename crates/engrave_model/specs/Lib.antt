@@ -1,3 +1,4 @@
+-- The definitions of the crate.
 pub mod Clear
 pub mod Depth
 pub mod Drawing

@@ -1,3 +1,4 @@
+-- The lemmas of the crate.
 pub mod Levels
 pub mod Crossings
 pub mod OneEdge

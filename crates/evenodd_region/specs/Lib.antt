@@ -1,3 +1,4 @@
+-- The definitions of the crate.
 pub mod Lookup
 pub mod Parity
 pub mod Ratios

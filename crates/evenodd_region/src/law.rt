@@ -13,7 +13,7 @@ pub fn parity_law()
     ensures { ParityLaw }
 {}
 
-/// A move that goes below the surface, removes no point of an edge, and is inside where it is first below the surface,
+/// A move that goes below the surface, removes no point of any edge, and is inside where it is first below the surface,
 /// removes only points that are inside.
 pub fn sparing_move_law()
     ensures { SparingMoveLaw }

@@ -1,3 +1,4 @@
+-- The lemmas of the crate.
 pub mod Cutting
 pub mod Outside
 pub mod Steps

@@ -1,3 +1,4 @@
+-- The definitions of the crate.
 pub mod Line
 pub mod Moves
 pub mod Profile

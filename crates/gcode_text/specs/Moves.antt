@@ -71,7 +71,8 @@ abbrev pub is_below : Option ℤ → Bool
 is_below None = false
 is_below (Some z) = int_lt z (pos 0)
 
--- the line's move after so many earlier ones: the bit may not be below the surface before its place was known
+-- the line's move after so many earlier ones, of which there may be no more than the most: the bit may not be below the
+-- surface before its place was known
 abbrev pub judge_move : ℕ → ℕ → Position → Said → Result (Option LineMove) CodeKind
 judge_move line count old said =
     if is_below (moved old said).z && not (is_some (place_of old)) then Err kind.Unplaced

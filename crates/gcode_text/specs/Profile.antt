@@ -27,7 +27,8 @@ abbrev pub or_kind : {A E : Type 0} → CodeKind → Result A E → Result A Cod
 or_kind fault (Ok x) = Ok x
 or_kind fault (Err _) = Err fault
 
--- G0 and G1 once in a line; the job's unit; G17, G40, G49, G54, G61, G64, G80, G90, G91.1 and G94 without effect
+-- G0 and G1 once in a line; G20 or G21, the job's unit; G91 refused by its own name; G17, G40, G49, G54, G61, G64, G80, G90,
+-- G91.1 and G94 without effect
 abbrev pub judge_g : Units → Said → PlainNumber → Result Said CodeKind
 judge_g units said number =
     if is_one_of (0 ∷ 10 ∷ []) number then (if said.motion then Err kind.Twice else Ok (record said { motion = true }))

@@ -17,7 +17,7 @@ pub enum CodeKind {
     Incremental,
     /// The height is below the surface, and not every coordinate was known before the line.
     Unplaced,
-    /// A coordinate is out of the grid's range.
+    /// X or Y isn't from -32,768 to 32,767 grid units, or Z from -32,767 to 32,767.
     OutOfRange,
     /// The line has more than 1024 bytes.
     LongLine,

@@ -9,7 +9,7 @@ use Rattle.depth_rule.specs.Met.{IsFirstMet, IsOutside}
 use Rattle.gouge_checker.specs.declared.check.Verdict.{Verdict}
 use Rattle.gouge_checker.specs.declared.check.Verdict.TheVariants.{Clear, TooDeep, Slant, Gouge, Outside}
 
--- a move that is neither too deep nor slant goes below the surface and gouges
+-- a move that is neither too deep nor slant goes below the surface and meets what it mustn't
 pub record Gouges (cone : Cone) (mv : Move) (Meets : Type 0) : Type 0 where
   pub deep : IsDeep mv
   pub narrow : ¬ IsTooDeep cone mv

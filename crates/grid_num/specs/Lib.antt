@@ -1,3 +1,4 @@
+-- The definitions of the crate.
 pub mod Cutting
 pub mod Decimal
 pub mod Judging

@@ -30,7 +30,8 @@ without_return [] = []
 without_return (byte ∷ []) = if byte == 13 then [] else byte ∷ []
 without_return (byte ∷ next ∷ rest) = byte ∷ without_return (next ∷ rest)
 
--- the lines of a text: they end with a line feed (10), before which a carriage return is no part of the line
+-- the lines of a text: they end with a line feed (10), and a carriage return before it, or at the end of the text, is no
+-- part of the line
 abbrev pub lines_of : List ℕ → List Piece
 lines_of text = map (λ line. record { at = line.at; bytes = without_return line.bytes }) (pieces (λ byte. byte == 10) 0 text)
 

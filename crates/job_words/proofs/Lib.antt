@@ -1,3 +1,4 @@
+-- The lemmas of the crate.
 pub mod Apps
 pub mod Forms
 pub mod Requests

@@ -1,3 +1,4 @@
+-- The definitions of the crate.
 pub mod Commands
 pub mod Options
 pub mod Plain

@@ -14,7 +14,7 @@ pub record OptionRow : Type 0 where
 abbrev pub row_of : CommandOption → OptionRow
 row_of option = record { name = option.name.now; required = option.required }
 
--- `--name`, with one value each time it stands
+-- `--name` with one value; to stand twice is a fault
 abbrev pub option_rule : OptionRow → Rule
 option_rule option = record (new_rule option.name) {
   long = Some option.name;

@@ -50,13 +50,13 @@ unfoldable pub check_of : (List ℕ → Option (List ℕ)) → Option Request
 check_of value =
     check_by (bit_of (value (codes "bit"))) (rmax_of (value (codes "rmax"))) (shape_of value) (value (codes "code"))
 
--- the request of a command with these values, or None where one isn't in its form and range
+-- the request of a command with these values, or None where one that it needs is missing or isn't in its form and range
 unfoldable pub values_request : CommandWord → (List ℕ → Option (List ℕ)) → Option Request
 values_request command.Probe value = probe_of value
 values_request command.Moves value = moves_of value
 values_request command.Check value = check_of value
 
--- the same, where the words, of which the first is the command's name, are taken
+-- the same for words of which the first is the command's name, where `clap` takes them
 unfoldable pub command_request : CommandWord → List (List ℕ) → Option Request
 command_request command words =
     if is_taken (options_of command) words then values_request command (value_in (options_of command) words) else None

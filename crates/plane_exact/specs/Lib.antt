@@ -1,3 +1,4 @@
+-- The definitions of the crate.
 pub mod Cone
 pub mod Distance
 pub mod Heights

@@ -4,7 +4,7 @@ use Rattle.std.specs.BTreeMap.{BTreeMap, get_by_text}
 use Rattle.shop_port.specs.declared.depot.Fetch.{Fetch}
 use Rattle.shop_port.specs.declared.depot.Fetch.TheVariants.{Got, Absent}
 
--- P of the count, if bytes came
+-- P of the count, if there is such a file
 abbrev pub IfGot : Fetch → (ℕ → Type 0) → Type 0
 IfGot (Got n) P = P n
 IfGot Absent P = Unit {0}

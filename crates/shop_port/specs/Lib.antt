@@ -1,3 +1,4 @@
+-- The definitions of the crate.
 pub mod Counts
 pub mod Files
 pub mod Output

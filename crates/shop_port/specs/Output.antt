@@ -7,7 +7,7 @@ Appended (Some old) (Some new) bytes = new ≡ old ++ bytes
 Appended None (Some new) bytes = ⊥
 Appended old None bytes = Unit {0}
 
--- some of the bytes were added, from the front on, but not all
+-- bytes were added from the front on, but not all; it may be none
 pub record AppendedPart (old new : Option (List ℕ)) (bytes : List ℕ) : Type 0 where
   pub count : ℕ
   pub part : count < length bytes

@@ -1,3 +1,4 @@
+-- The lemmas of the crate.
 pub mod Border
 pub mod Boxes
 pub mod Cleared

@@ -1,4 +1,5 @@
-// How much farther than the bit's radius a corner is from the tip, along a move: a quadratic in the moment.
+// By how much the square of a corner's distance from the tip exceeds that of the bit's radius, along a move: a quadratic in
+// the moment.
 ghost use mir.Syntax.{w64, w128};
 ghost use Rattle.std.specs.Prelude.{◌≡◌, ◌↔◌, ◌⊎◌, ◌≤◌, pos, negsuc, ◌+ℤ◌, ◌-ℤ◌, ◌*ℤ◌, ◌≤ℤ◌, FitsSigned, IsTrue};
 ghost use Rattle.plane_exact.specs.Distance.{square};
@@ -81,7 +82,8 @@ fn away(from: Point, to: Point, corner: Point) -> i64
     -dot(from, corner, to)
 }
 
-// How much farther than the bit's radius the corner is from the tip, as a quadratic in the moment.
+// The square of the corner's distance from the tip, less that of the bit's radius, times the square of the bit's second
+// number: a quadratic in the moment.
 pub fn margin_at(mv: &Move, bit: &Bit, corner: Point) -> Margin
     ensures a { result.a ≡ (corner_margin bit.now mv.now corner).a }
     ensures half { pos 2 *ℤ result.half ≡ (corner_margin bit.now mv.now corner).b }

@@ -1,3 +1,4 @@
+-- Answers the goals of `greatest_clear`.
 use Rattle.std.proofs.Common.{arith}
 use Rattle.engrave_model.proofs.Discs.{less_clear, surface_clear}
 use Rattle.engrave_model.specs.Depth.{IsDiscClear}

@@ -1,3 +1,4 @@
+-- The invariants of the loop of `greatest_clear`.
 use Rattle.std.proofs.Common.{◌-◌}
 use Rattle.engrave_model.specs.Depth.{IsDiscClear}
 use Rattle.depth_rule.proofs.Bisection.{Brackets}

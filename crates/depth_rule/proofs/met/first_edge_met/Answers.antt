@@ -1,3 +1,4 @@
+-- Answers the goals of `first_edge_met`.
 use Rattle.std.proofs.Common.{rules}
 use Rattle.std.proofs.lemmas.List.Elements.{AllWithin-more, at_read}
 use Rattle.engrave_model.specs.Clear.{PassesEdge}

@@ -1,3 +1,4 @@
+-- Answers the goals of `first_met`.
 use Rattle.std.proofs.Common.{arith, ap, length}
 use Rattle.loops_text.proofs.Drawings.{length-edges_of}
 use Rattle.depth_rule.proofs.met.first_met.Goals as goal

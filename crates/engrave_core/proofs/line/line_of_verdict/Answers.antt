@@ -1,3 +1,4 @@
+-- Answers the goals of `line_of_verdict`.
 use Rattle.std.specs.Prelude.{codes, decimal, string_bytes}
 use Rattle.std.proofs.Common.{sym, ◌++◌, append_assoc}
 use Rattle.engrave_core.specs.Line.{verdict_line}

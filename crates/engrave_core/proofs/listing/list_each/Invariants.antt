@@ -1,3 +1,4 @@
+-- The invariants of the loop of `list_each`.
 use Rattle.std.specs.Prelude.{flat_map}
 use Rattle.std.proofs.Common.{◌≡◌, string_bytes, take}
 use Rattle.engrave_core.specs.Due.{move_line}

@@ -1,3 +1,4 @@
+-- Answers the goals of `list_move`.
 use Rattle.std.specs.Prelude.{codes, decimal, string_bytes}
 use Rattle.std.proofs.Common.{sym, ◌++◌, append_assoc}
 use Rattle.engrave_core.specs.Due.{move_line}

@@ -1,3 +1,4 @@
+-- Answers the goals of `list_place`.
 use Rattle.std.specs.Prelude.{FitsSigned, codes, string_bytes}
 use Rattle.std.specs.Fmt.{signed_decimal}
 use Rattle.std.proofs.Common.{rules, w32, sym, ◌++◌, append_assoc}

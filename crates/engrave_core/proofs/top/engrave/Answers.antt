@@ -1,3 +1,4 @@
+-- Answers the goals of `engrave`.
 use Rattle.std.specs.Prelude.{map, string_bytes}
 use Rattle.std.proofs.Common.{inr}
 use Rattle.job_words.specs.Request.{request_of}

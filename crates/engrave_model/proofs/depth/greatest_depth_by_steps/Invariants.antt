@@ -1,3 +1,4 @@
+-- The invariants of the loop of `greatest_depth_by_steps`.
 use Rattle.std.proofs.Common.{◌≤◌, ℕ}
 use Rattle.engrave_model.specs.Depth.{Fits}
 use Rattle.engrave_model.proofs.depth.greatest_depth_by_steps.Given as goal

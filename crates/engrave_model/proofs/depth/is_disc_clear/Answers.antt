@@ -1,3 +1,4 @@
+-- Answers the goals of `is_disc_clear`.
 use Rattle.engrave_model.proofs.Discs.{clear_of_each, each_of_clear}
 use Rattle.engrave_model.proofs.depth.is_disc_clear.Goals as goal
 

@@ -1,3 +1,4 @@
+-- Answers the goals of `is_edge_clear`.
 use Rattle.engrave_model.proofs.Discs.{edge_clear}
 use Rattle.engrave_model.proofs.depth.is_edge_clear.Goals as goal
 

@@ -1,3 +1,4 @@
+-- Answers the goals of `is_edge_counted`.
 use Rattle.std.proofs.Common.{sym, ◌∙◌}
 use Rattle.engrave_model.proofs.Counting.{rising, falling, beside_row}
 use Rattle.engrave_model.proofs.inside.is_edge_counted.Goals as goal

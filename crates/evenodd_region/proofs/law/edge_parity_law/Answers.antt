@@ -1,3 +1,4 @@
+-- Answers the goals of `edge_parity_law`.
 use Rattle.evenodd_region.proofs.OneEdge.{edge_law}
 use Rattle.evenodd_region.proofs.law.edge_parity_law.Goals as goal
 

@@ -1,3 +1,4 @@
+-- Answers the goals of `inside_ratio`.
 use Rattle.std.proofs.Common.{refl, sym, ◌∙◌}
 use Rattle.plane_exact.proofs.Wide.{held}
 use Rattle.evenodd_region.proofs.Answered.{answered}

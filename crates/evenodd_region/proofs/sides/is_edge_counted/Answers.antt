@@ -1,3 +1,4 @@
+-- Answers the goals of `is_edge_counted`.
 use Rattle.std.proofs.Common.{◌≡◌, ap, sym, ◌∙◌, pos}
 use Rattle.std.specs.Prelude.{int_lt}
 use Rattle.plane_exact.proofs.Wide.{widest, held}

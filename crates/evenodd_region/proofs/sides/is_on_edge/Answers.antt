@@ -1,3 +1,4 @@
+-- Answers the goals of `is_on_edge`.
 use Rattle.std.proofs.Common.{◌≡◌, eqb-true, refl, pos}
 use Rattle.plane_exact.proofs.Wide.{widest, held, tested}
 use Rattle.evenodd_region.specs.Ratios.{point_of}

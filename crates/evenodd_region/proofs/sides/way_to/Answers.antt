@@ -1,3 +1,4 @@
+-- Answers the goals of `way_to`.
 use Rattle.evenodd_region.proofs.Reach.{scaled_fits, way_held, held_way}
 use Rattle.evenodd_region.proofs.sides.way_to.Goals as goal
 

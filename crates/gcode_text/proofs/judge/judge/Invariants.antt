@@ -1,3 +1,4 @@
+-- The invariants of the loop of `judge`.
 use Rattle.std.proofs.Common.{◌≡◌, length}
 use Rattle.gcode_text.specs.Line.{line_words}
 use Rattle.gcode_text.specs.Profile.{judge_words, nothing_said}

@@ -1,3 +1,4 @@
+-- Answers the goals of `take_outside`.
 use Rattle.std.proofs.Common.{sym, ◌∙◌}
 use Rattle.gcode_text.proofs.Outside.{then_said_none, skips_in_comment, opens_comment, skips_blank, says_byte}
 use Rattle.gcode_text.proofs.line.take_outside.Goals as goal

@@ -1,3 +1,4 @@
+-- The invariants of the loop of `take_outside`.
 use Rattle.std.proofs.Common.{◌≡◌, false, drop}
 use Rattle.gcode_text.specs.Line.{outside_comments}
 use Rattle.gcode_text.proofs.Outside.{then_said}

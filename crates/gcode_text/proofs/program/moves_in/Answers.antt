@@ -1,3 +1,4 @@
+-- Answers the goals of `moves_in`.
 use Rattle.std.proofs.Common.{arith, length, ◌∙◌, ap}
 use Rattle.std.proofs.lemmas.Result.{err_from_is_err_and}
 use Rattle.gcode_text.specs.Run.{moves_left}

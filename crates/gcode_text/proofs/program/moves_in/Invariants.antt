@@ -1,3 +1,4 @@
+-- The invariants of the loop of `moves_in`.
 use Rattle.std.proofs.Common.{◌≡◌, ◌+◌, ◌≤◌, length}
 use Rattle.gcode_text.specs.Moves.{moves_of}
 use Rattle.gcode_text.specs.Run.{moves_left}

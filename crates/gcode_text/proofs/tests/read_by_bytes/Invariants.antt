@@ -1,3 +1,4 @@
+-- The invariants of the loop of `read_by_bytes`.
 use Rattle.std.proofs.Common.{◌≤◌, length}
 use Rattle.std.specs.Prelude.{IfSome}
 use Rattle.gcode_text.proofs.tests.read_by_bytes.Given as goal

@@ -1,3 +1,4 @@
+-- Answers the goals of `first_word`.
 use Rattle.gcode_text.proofs.Cutting.{line_words_first}
 use Rattle.gcode_text.proofs.words.first_word.Goals as goal
 

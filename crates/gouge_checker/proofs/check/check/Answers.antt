@@ -1,3 +1,4 @@
+-- Answers the goals of `check`.
 use Rattle.std.proofs.Common.{subst}
 use Rattle.engrave_model.specs.Drawing.{edges_of}
 use Rattle.gouge_checker.proofs.Safety.{clear_code_is_safe}

@@ -1,3 +1,4 @@
+-- The invariants of the loop of `find_verdict`.
 use Rattle.engrave_model.specs.Drawing.{edges_of}
 use Rattle.gouge_checker.proofs.Verdicts.{IsDecidedBy}
 use Rattle.gouge_checker.proofs.check.find_verdict.Given as goal

@@ -1,3 +1,4 @@
+-- Answers the goals of `counted_in_both`.
 use Rattle.std.proofs.Common.{arith}
 use Rattle.std.proofs.lemmas.Bool.Decides.{nat_tests}
 use Rattle.grid_num.proofs.Runs.{counted_digits-append, counted_digits-le}

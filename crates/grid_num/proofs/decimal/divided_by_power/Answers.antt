@@ -1,3 +1,4 @@
+-- Answers the goals of `divided_by_power`.
 use Rattle.std.proofs.Common.{arith}
 use Rattle.grid_num.proofs.Powers.{no_quotient, power_pos}
 use Rattle.grid_num.proofs.decimal.divided_by_power.Goals as goal

@@ -1,3 +1,4 @@
+-- Answers the goals of `have_digits_alone`.
 use Rattle.std.proofs.Common.{arith, length-append}
 use Rattle.std.proofs.lemmas.Bool.Decides.{nat_tests}
 use Rattle.grid_num.proofs.Runs.{all_ascii_digits-append}

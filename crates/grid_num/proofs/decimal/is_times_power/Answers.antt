@@ -1,3 +1,4 @@
+-- Answers the goals of `is_times_power`.
 use Rattle.std.proofs.Common.{arith}
 use Rattle.std.proofs.lemmas.Bool.Decides.{nat_tests}
 use Rattle.grid_num.proofs.Powers.{is_multiple, times_power_le}

@@ -1,3 +1,4 @@
+-- Answers the goals of `split_at_point`.
 use Rattle.std.proofs.Common.{◌==◌}
 use Rattle.grid_num.proofs.Sides.{before_first_at, after_first_at, before_first_none, after_first_none}
 use Rattle.grid_num.proofs.decimal.split_at_point.Goals as goal

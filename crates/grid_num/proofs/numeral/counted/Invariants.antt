@@ -1,3 +1,4 @@
+-- The invariants of the loop of `counted`.
 use Rattle.std.proofs.Common.{◌≡◌, drop}
 use Rattle.grid_num.specs.Decimal.{counted_digits}
 use Rattle.grid_num.proofs.numeral.counted.Given as goal

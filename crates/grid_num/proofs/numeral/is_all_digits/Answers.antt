@@ -1,3 +1,4 @@
+-- Answers the goals of `is_all_digits`.
 use Rattle.std.proofs.Common.{◌&&◌, refl, ◌∙◌, rules, tests}
 use Rattle.std.specs.Char.{is_ascii_digit}
 use Rattle.std.specs.List.{list_all}

@@ -1,3 +1,4 @@
+-- Answers the goals of `power_of_ten`.
 use Rattle.std.proofs.Common.{arith}
 use Rattle.grid_num.proofs.Powers.{power_le}
 use Rattle.grid_num.proofs.numeral.power_of_ten.Goals as goal

@@ -1,3 +1,4 @@
+-- The invariants of the loop of `power_of_ten`.
 use Rattle.std.proofs.Common.{◌≡◌, ◌^◌}
 use Rattle.grid_num.proofs.numeral.power_of_ten.Given as goal
 

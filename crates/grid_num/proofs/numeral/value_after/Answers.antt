@@ -1,3 +1,4 @@
+-- Answers the goals of `value_after`.
 use Rattle.std.proofs.Common.{arith}
 use Rattle.grid_num.proofs.Runs.{le-digits_value_after-drop}
 use Rattle.grid_num.proofs.numeral.value_after.Goals as goal

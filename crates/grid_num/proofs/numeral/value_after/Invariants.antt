@@ -1,3 +1,4 @@
+-- The invariants of the loop of `value_after`.
 use Rattle.std.proofs.Common.{◌≡◌, true, drop}
 use Rattle.std.specs.Str.{all_ascii_digits}
 use Rattle.std.specs.Str.Parse.{digits_value_after}

@@ -1,3 +1,4 @@
+-- Answers the goals of `read_digits`.
 use Rattle.std.proofs.Common.{◌≤◌, arith, get_or, lit<, sym, ◌∙◌}
 use Rattle.std.proofs.Math.Nat.{pow-le-pow_right}
 use Rattle.std.proofs.lemmas.Grind.{pow_more}

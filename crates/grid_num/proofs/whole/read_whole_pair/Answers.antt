@@ -1,3 +1,4 @@
+-- Answers the goals of `read_whole_pair`.
 use Rattle.std.proofs.Common.{◌≡◌, ◌+◌, ◌-◌, Some, length, take, drop, SFits, w32, sym, ap, ◌∙◌, refl, arith, rules}
 use Rattle.std.proofs.lemmas.Int.{to_z-of_z}
 use Rattle.std.proofs.lemmas.Grind.{common_steps}

@@ -1,3 +1,4 @@
+-- Answers the goals of `plain_words_are_taken`.
 use Rattle.job_words.proofs.Walks.{takes_plain_words}
 use Rattle.job_words.proofs.law.plain_words_are_taken.Goals as goal
 

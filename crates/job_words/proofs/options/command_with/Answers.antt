@@ -1,3 +1,4 @@
+-- Answers the goals of `command_with`.
 use Rattle.std.proofs.Common.{◌∙◌, ◌<◌, ap, arith, false, length, []}
 use Rattle.clap.specs.Simple.{app_of_fields}
 use Rattle.job_words.specs.declared.options.CommandOption.{CommandOption}

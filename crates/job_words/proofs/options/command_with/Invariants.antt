@@ -1,3 +1,4 @@
+-- The invariants of the loop of `command_with`.
 use Rattle.std.proofs.Common.{◌≡◌, map, take}
 use Rattle.clap.specs.Simple.{app_of}
 use Rattle.job_words.specs.Options.{options_app, row_of}

@@ -1,3 +1,4 @@
+-- Answers the goals of `match_words`.
 use Rattle.std.proofs.Common.{map, string_bytes}
 use Rattle.job_words.specs.Options.{row_of}
 use Rattle.job_words.proofs.Taking.{taken_by, refused_by, values_by}

@@ -1,3 +1,4 @@
+-- The invariants of the loop of `append_edges`.
 use Rattle.std.proofs.Common.{◌≡◌, ◌+◌, ◌≤◌, ◌∷◌, ◌++◌, drop, length, vec_capacity, vec_len}
 use Rattle.engrave_model.specs.Drawing.{edges_back_to, edges_of_loop}
 use Rattle.loops_text.proofs.drawing.append_edges.Given as goal

@@ -1,3 +1,4 @@
+-- The invariants of the loop of `append_repeated`.
 use Rattle.std.proofs.Common.{◌≡◌, ◌+◌, ◌++◌, replicate, vec_capacity, vec_len}
 use Rattle.loops_text.proofs.drawing.append_repeated.Given as goal
 

@@ -1,3 +1,4 @@
+-- The invariants of the loop of `repeats_a_point`.
 use Rattle.std.proofs.Common.{◌≡◌, ◌∷◌, drop}
 use Rattle.std.specs.List.{list_any}
 use Rattle.engrave_model.specs.Drawing.{edges_back_to, edges_of_loop}

@@ -1,3 +1,4 @@
+-- Answers the goals of `is_last`.
 use Rattle.std.proofs.Common.{ap, sym, ◌∙◌}
 use Rattle.loops_text.specs.Loops.{is_last}
 use Rattle.loops_text.proofs.Reading.{is_last_push}

@@ -1,3 +1,4 @@
+-- Answers the goals of `read_loop`.
 use Rattle.std.proofs.Common.{◌≡◌, ◌+◌, ◌-◌, ◌∷◌, ◌++◌, [], Ok, length, ap, arith, sym, ◌∙◌, refl}
 use Rattle.std.proofs.lemmas.List.{length_push}
 use Rattle.grid_num.specs.Cutting.{piece_of}

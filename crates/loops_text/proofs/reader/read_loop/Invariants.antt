@@ -1,3 +1,4 @@
+-- The invariants of the loop of `read_loop`.
 use Rattle.std.proofs.Common.{◌≡◌, ◌-◌, ◌≤◌, [], length}
 use Rattle.loops_text.specs.Loops.{place_of_last, points_of}
 use Rattle.loops_text.proofs.Reading.{last_place}

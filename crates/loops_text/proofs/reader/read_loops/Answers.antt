@@ -1,3 +1,4 @@
+-- Answers the goals of `read_loops`.
 use Rattle.std.proofs.Common.{sym, ◌≡◌, ◌∷◌, ◌++◌, [], ap, ◌∙◌}
 use Rattle.std.proofs.lemmas.Result.{err_from_is_err_and}
 use Rattle.grid_num.specs.Cutting.{piece_of}

@@ -1,3 +1,4 @@
+-- The invariants of the loop of `read_loops`.
 use Rattle.std.proofs.Common.{◌≡◌}
 use Rattle.loops_text.specs.Loops.{loops_of}
 use Rattle.loops_text.proofs.Reading.{drawing_with}

@@ -1,3 +1,4 @@
+-- Answers the goals of `dist_at_least`.
 use Rattle.std.proofs.Common.{◌↔◌, pos, arith}
 use Rattle.std.proofs.lemmas.Int.{ints}
 use Rattle.plane_exact.specs.Distance.{square}

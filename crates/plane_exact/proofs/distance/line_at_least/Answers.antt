@@ -1,3 +1,4 @@
+-- Answers the goals of `line_at_least`.
 use Rattle.std.proofs.Common.{lit<, ap₂, ◌*◌, ◌*ℤ◌, ◌∙◌, pos}
 use Rattle.integer_algebra.proofs.Order.{product_within}
 use Rattle.plane_exact.proofs.Wide.{held, widened_product, product_bounds, square_bounds, product_fits, tested}

@@ -1,3 +1,4 @@
+-- Answers the goals of `point_at_least`.
 use Rattle.std.proofs.Common.{lit<, ap₂, ◌*ℤ◌, ◌∙◌}
 use Rattle.plane_exact.proofs.Wide.{held, widened_product, product_bounds, square_bounds, product_fits, tested}
 use Rattle.plane_exact.proofs.distance.point_at_least.Goals as goal

@@ -1,3 +1,4 @@
+-- Answers the goals of `collinear`.
 use Rattle.std.proofs.Common.{inl, inr, refl, sym, ◌∙◌}
 use Rattle.plane_exact.proofs.Signs.{held, less, not_less, not_both, strict, read_same, same_read}
 use Rattle.plane_exact.proofs.Ranges.{read_zero, zero_read}

@@ -1,3 +1,4 @@
+-- Answers the goals of `cross_kind`.
 use Rattle.std.proofs.Common.{sym, ◌∙◌}
 use Rattle.plane_exact.proofs.Ranges.{read_zero, zero_read}
 use Rattle.plane_exact.proofs.Signs.{held, less, not_less, strict, level}

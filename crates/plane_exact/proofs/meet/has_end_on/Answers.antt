@@ -1,3 +1,4 @@
+-- Answers the goals of `has_end_on`.
 use Rattle.std.proofs.Common.{eqb-true, inr}
 use Rattle.std.proofs.lemmas.Bool.{eq-eqb}
 use Rattle.plane_exact.proofs.Ranges.{read_zero, zero_read}

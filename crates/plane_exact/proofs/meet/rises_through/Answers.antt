@@ -1,3 +1,4 @@
+-- Answers the goals of `rises_through`.
 use Rattle.std.proofs.Common.{refl}
 use Rattle.plane_exact.proofs.Ranges.{not_above}
 use Rattle.plane_exact.proofs.Signs.{held}

@@ -1,3 +1,4 @@
+-- Answers the goals of `slanted`.
 use Rattle.std.proofs.Common.{sym, ◌∙◌}
 use Rattle.plane_exact.proofs.Signs.{not_both}
 use Rattle.plane_exact.proofs.Slants.{straddles_first, straddles_second, meet_at_ends, meet_within, as_turned}

@@ -1,3 +1,4 @@
+-- Answers the goals of `between`.
 use Rattle.std.proofs.Common.{sym, subst}
 use Rattle.plane_exact.specs.Plane.{IsCoordinate}
 use Rattle.plane_exact.proofs.Ranges.{difference_taken}

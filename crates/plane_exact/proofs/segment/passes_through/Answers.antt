@@ -1,3 +1,4 @@
+-- Answers the goals of `passes_through`.
 use Rattle.std.proofs.Common.{eqb-true}
 use Rattle.plane_exact.proofs.Ranges.{not_above, at_most, read_zero, zero_read}
 use Rattle.plane_exact.proofs.Collinear.{on_segment, on_line, between_ends}

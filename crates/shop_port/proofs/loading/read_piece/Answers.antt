@@ -1,3 +1,4 @@
+-- Answers the goals of `read_piece`.
 use Rattle.std.proofs.Common.{◌≡◌, length, rules}
 use Rattle.shop_port.proofs.Fronts.{front_more_told}
 use Rattle.shop_port.proofs.loading.read_piece.Goals as goal

@@ -1,3 +1,4 @@
+-- The invariants of the loop of `read_to_end`.
 use Rattle.std.proofs.Common.{length, ◌-◌, ◌+◌, ◌≤◌, ◌≡◌, IfSome}
 use Rattle.shop_port.specs.Loading.{IsFront}
 use Rattle.shop_port.proofs.loading.read_to_end.Given as goal

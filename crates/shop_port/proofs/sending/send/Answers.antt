@@ -1,3 +1,4 @@
+-- Answers the goals of `send`.
 use Rattle.std.proofs.Common.{arith}
 use Rattle.shop_port.proofs.Fronts.{appended_more, more_within}
 use Rattle.shop_port.proofs.sending.send.Goals as goal

@@ -1,3 +1,4 @@
+-- The invariants of the loop of `send`.
 use Rattle.std.proofs.Common.{length, take, ◌-◌, ◌≤◌}
 use Rattle.shop_port.specs.Output.{Appended}
 use Rattle.shop_port.proofs.sending.send.Given as goal

@@ -1,3 +1,4 @@
+-- Answers the goals of `are_parted`.
 use Rattle.swept_move.proofs.Narrow.{parted_below, parted_above}
 use Rattle.swept_move.proofs.clear.are_parted.Goals as goal
 

@@ -1,3 +1,4 @@
+-- Answers the goals of `away`.
 use Rattle.swept_move.proofs.Narrow.{turned, way_turned}
 use Rattle.swept_move.proofs.margin.away.Goals as goal
 

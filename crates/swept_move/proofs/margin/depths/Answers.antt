@@ -1,3 +1,4 @@
+-- Answers the goals of `depths`.
 use Rattle.swept_move.proofs.Narrow.{depths_range}
 use Rattle.swept_move.proofs.margin.depths.Goals as goal
 

@@ -1,3 +1,4 @@
+-- Answers the goals of `excess`.
 use Rattle.std.proofs.Common.{ℕ, pos, ap, ◌*ℤ◌, ◌∙◌}
 use Rattle.plane_exact.specs.Distance.{square}
 use Rattle.swept_move.proofs.Narrow.{product_fits, is_product, product_bounds, excess_of}

@@ -1,3 +1,4 @@
+-- Answers the goals of `margin_at`.
 use Rattle.std.proofs.Common.{ℤ, pos, arith, ◌+ℤ◌, ◌-ℤ◌, ◌*ℤ◌, ap, ap₂, ◌∙◌}
 use Rattle.std.proofs.lemmas.Int.{ints}
 use Rattle.plane_exact.specs.Distance.{square}

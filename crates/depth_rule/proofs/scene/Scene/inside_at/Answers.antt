@@ -1,3 +1,4 @@
+-- Answers the goals of `Scene::inside_at`.
 use Rattle.std.specs.Prelude.{FitsSigned}
 use Rattle.std.specs.Int.{w128}
 use Rattle.std.proofs.Common.{subst}

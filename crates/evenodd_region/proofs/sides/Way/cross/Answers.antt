@@ -1,3 +1,4 @@
+-- Answers the goals of `Way::cross`.
 use Rattle.evenodd_region.proofs.Reach.{difference_held}
 use Rattle.evenodd_region.proofs.sides.Way.cross.Goals as goal
 

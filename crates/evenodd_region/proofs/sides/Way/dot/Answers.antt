@@ -1,3 +1,4 @@
+-- Answers the goals of `Way::dot`.
 use Rattle.evenodd_region.proofs.Reach.{sum_held}
 use Rattle.evenodd_region.proofs.sides.Way.dot.Goals as goal
 

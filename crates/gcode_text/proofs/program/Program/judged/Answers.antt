@@ -1,3 +1,4 @@
+-- Answers the goals of `Program::judged`.
 use Rattle.std.proofs.Common.{refl}
 use Rattle.gcode_text.proofs.program.Program.judged.Goals as goal
 

@@ -1,3 +1,4 @@
+-- Answers the goals of `Program::take`.
 use Rattle.std.proofs.Common.{◌∙◌, sym, ap}
 use Rattle.gcode_text.proofs.Steps.{goes_on, behind_same}
 use Rattle.gcode_text.proofs.program.Program.take.Goals as goal

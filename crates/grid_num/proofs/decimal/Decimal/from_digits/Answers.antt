@@ -1,3 +1,4 @@
+-- Answers the goals of `Decimal::from_digits`.
 use Rattle.std.proofs.Common.{arith, sym, ◌∙◌}
 use Rattle.std.proofs.lemmas.Bool.Decides.{nat_tests}
 use Rattle.grid_num.proofs.Runs.{AreNumeral-from_tests}

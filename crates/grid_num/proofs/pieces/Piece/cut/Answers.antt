@@ -1,3 +1,4 @@
+-- Answers the goals of `Piece::cut`.
 use Rattle.std.proofs.Common.{arith, sym, ◌∙◌}
 use Rattle.std.proofs.lemmas.Grind.{common_steps}
 use Rattle.grid_num.proofs.Cuts.{pieces_cut, pieces_whole}

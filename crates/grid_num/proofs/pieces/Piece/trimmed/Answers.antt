@@ -1,3 +1,4 @@
+-- Answers the goals of `Piece::trimmed`.
 use Rattle.std.proofs.Common.{ℕ, List, ap, sym, ◌∙◌}
 use Rattle.grid_num.specs.Pieces.{Piece, without_return}
 use Rattle.grid_num.proofs.Cuts.{without_return_push, without_return_other}

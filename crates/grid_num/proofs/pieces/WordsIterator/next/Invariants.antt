@@ -1,3 +1,4 @@
+-- The invariants of the loop of `WordsIterator::next`.
 use Rattle.std.proofs.Common.{◌≡◌, length, filter}
 use Rattle.grid_num.specs.Cutting.{is_word}
 use Rattle.grid_num.proofs.pieces.WordsIterator.next.Given as goal

@@ -1,3 +1,4 @@
+-- Answers the goals of `Drawing::edges`.
 use Rattle.std.proofs.Common.{arith}
 use Rattle.loops_text.proofs.Drawings.{few_edges}
 use Rattle.loops_text.proofs.drawing.Drawing.edges.Goals as goal

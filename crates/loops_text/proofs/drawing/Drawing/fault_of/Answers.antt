@@ -1,3 +1,4 @@
+-- Answers the goals of `Drawing::fault_of`.
 use Rattle.std.proofs.Common.{ap, arith, map, sym, ◌∙◌}
 use Rattle.loops_text.specs.Edges.{push_fault}
 use Rattle.loops_text.proofs.Drawings.{points_counted, push_fault-None, push_fault-TooMany}

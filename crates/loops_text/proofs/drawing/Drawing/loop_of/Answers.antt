@@ -1,3 +1,4 @@
+-- Answers the goals of `Drawing::loop_of`.
 use Rattle.std.proofs.Common.{ap, arith, ◌∙◌}
 use Rattle.std.proofs.lemmas.List.{get_or_read}
 use Rattle.loops_text.specs.Edges.{loop_number}

@@ -1,3 +1,4 @@
+-- Answers the goals of `Drawing::loops`.
 use Rattle.std.proofs.Common.{arith}
 use Rattle.std.proofs.lemmas.List.{length-map}
 use Rattle.loops_text.proofs.Drawings.{few_loops}

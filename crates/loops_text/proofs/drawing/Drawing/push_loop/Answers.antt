@@ -1,3 +1,4 @@
+-- Answers the goals of `Drawing::push_loop`.
 use Rattle.std.proofs.Common.{[], ◌∷◌, ◌++◌, length, replicate, ap, arith, sym, ◌∙◌}
 use Rattle.std.proofs.lemmas.List.{length-map}
 use Rattle.engrave_model.specs.Drawing.{edges_of_loop}

@@ -1,3 +1,4 @@
+-- Answers the goals of `Offset::cross`.
 use Rattle.plane_exact.proofs.Ranges.{times_is, minus_is}
 use Rattle.plane_exact.proofs.product.Offset.cross.Goals as goal
 

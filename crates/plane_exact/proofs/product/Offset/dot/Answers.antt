@@ -1,3 +1,4 @@
+-- Answers the goals of `Offset::dot`.
 use Rattle.plane_exact.proofs.Ranges.{times_is, plus_is}
 use Rattle.plane_exact.proofs.product.Offset.dot.Goals as goal
 

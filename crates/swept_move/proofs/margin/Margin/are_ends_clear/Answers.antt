@@ -1,3 +1,4 @@
+-- Answers the goals of `Margin::are_ends_clear`.
 use Rattle.std.proofs.Common.{arith}
 use Rattle.std.proofs.lemmas.Int.{ints}
 use Rattle.swept_move.proofs.Narrow.{finish_test}

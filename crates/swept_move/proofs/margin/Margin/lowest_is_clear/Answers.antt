@@ -1,3 +1,4 @@
+-- Answers the goals of `Margin::lowest_is_clear`.
 use Rattle.std.proofs.Common.{ap₂, ◌∙◌, ◌*ℤ◌}
 use Rattle.swept_move.proofs.Narrow.{lifted_test, read_margin}
 use Rattle.swept_move.proofs.margin.Margin.lowest_is_clear.Goals as goal

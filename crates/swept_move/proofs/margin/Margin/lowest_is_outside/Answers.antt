@@ -1,3 +1,4 @@
+-- Answers the goals of `Margin::lowest_is_outside`.
 use Rattle.std.proofs.Common.{◌≡◌, arith, inl, inr, sym, ◌∙◌, int_le, false, pos}
 use Rattle.std.proofs.lemmas.Int.{ints}
 use Rattle.plane_exact.proofs.Ranges.{wide}
