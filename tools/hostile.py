@@ -1,0 +1,351 @@
+"""Feeds the built program truncated, huge, binary and adversarial words, drawings and code, and checks how each run ends.
+
+    python3 tools/hostile.py [--runs N] [--seed N] [--program PATH] [--huge]      (on Linux)
+
+Each run has to end with a status and the text that the manual gives it, with nothing on standard error, within the stated
+memory and time. What is due is written in hostile_rows.py, or read apart from the program by hostile_expected.py; else the
+form of the text is judged alone. It prints a line for each part; the files of a run that ends otherwise are kept. With
+--huge the largest inputs are run instead, which takes some gigabytes of disk. The memory that is printed is at least that of
+this script, some 18 MiB, since it has the process before the program does.
+"""
+
+import argparse
+import multiprocessing
+import os
+import random
+import shutil
+import signal
+import sys
+import tempfile
+import time
+from collections import namedtuple
+from pathlib import Path
+
+# The folder stays as it is.
+sys.dont_write_bytecode = True
+
+import hostile_expected
+import hostile_rows as rows
+
+BUILT = Path(__file__).resolve().parent.parent / "crates/engrave_cli/out/engrave_cli"
+BUILD = "(cd crates/engrave_cli && rt run -- probe --drawing=data/plate.loops --at=500,500 --bit=1/1 --rmax=600)"
+MEBIBYTE = 1 << 20
+# No run goes on for longer, no worker keeps the files of more runs, and no more runs may be wrong.
+MOST_SECONDS, MOST_KEPT, MOST_WRONG = 600, 10, 100
+
+# A run: its words, its files in pieces, the statuses that may be due, the text that is due with the first of them (None
+# where its form is judged alone), where standard output goes, and the address space that it has in KiB, 0 for all.
+Case = namedtuple("Case", "part words files statuses text output space", defaults=("file", 0))
+Ended = namedtuple("Ended", "status seconds mebibytes")
+
+
+def case_of(part, words, files, status, text):
+    """A case of a row."""
+    words = words.split() if isinstance(words, str) else words
+    words = [word if isinstance(word, bytes) else word.encode() for word in words]
+    files = {name: [(file, 1)] if isinstance(file, bytes) else file for name, file in files.items()}
+    return Case(part, words, files, (status,), b"" if text is None else text.encode() + b"\n")
+
+
+def row_cases():
+    """The rows that are written by hand."""
+    for drawing, status, line in rows.DRAWINGS:
+        yield case_of("drawings by hand", rows.PROBE, {"d": drawing}, status, line)
+    for code, status, text in rows.CODES:
+        yield case_of("codes by hand", rows.MOVES, {"c": code}, status, text)
+    for drawing, code, status, line in rows.CHECKS:
+        yield case_of("checks by hand", rows.CHECK, {"d": drawing, "c": code}, status, line)
+    plain = {"d": rows.SQUARE, "c": rows.DOWN}
+    for words, status, text in rows.WORDS:
+        yield case_of("words by hand", words, plain, status, text)
+    for words, status, text in rows.NAMES + (rows.UNREADABLE if os.geteuid() else []):
+        yield case_of("names of no plain files", words, plain, status, text)
+    for words in rows.UNWRITTEN:
+        for output in ("full", "closed", "broken", "read only"):
+            yield case_of("outputs that fail", words, plain, 6, None)._replace(output=output)
+    for words, drawing, code, status, text in rows.LARGE:
+        yield case_of("large inputs", words, {"d": drawing, "c": code}, status, text)
+
+
+def due_case(part, words, drawing, code):
+    """A case whose answer is read apart from the program."""
+    statuses, text = hostile_expected.due(words, {b"d": drawing, b"c": code})
+    return Case(part, words, {"d": [(drawing, 1)], "c": [(code, 1)]}, statuses, text)
+
+
+def cut_cases():
+    """Valid inputs that end at every byte."""
+    probe, moves, check = (words.encode().split() for words in (rows.PROBE, rows.MOVES, rows.CHECK))
+    for drawing in (rows.PLATE, rows.ANGLE):
+        for end in range(len(drawing)):
+            yield due_case("cut drawings", probe, drawing[:end], b"")
+    for code in (rows.LENIENT, rows.DOWN):
+        for end in range(len(code)):
+            yield due_case("cut codes", moves, b"", code[:end])
+            yield due_case("cut codes", check, rows.ANGLE, code[:end])
+    for words in (rows.PROBE + " --limit=70 --form=loops", rows.MOVES + " --units=mm1000", rows.CHECK):
+        for end in range(len(words)):
+            yield due_case("cut words", words[:end].encode().split(), rows.SQUARE, rows.DOWN)
+
+
+def scarce_cases():
+    """Runs that have less and less memory: they answer, or end with the status that tells the want of it."""
+    far = [rows.FAR, (b"Z9\n", 300_000)]
+    for name, words, status, text in (("d", rows.PROBE, 0, "depth 0"), ("c", rows.MOVES, 0, "moves 300000")):
+        file = [(b"0,0 1,1\n", 65_536)] if name == "d" else far
+        for mebibytes in rows.SPACES:
+            case = case_of("scarce memory", words, {name: file}, status, text)
+            yield case._replace(statuses=(status, 7), space=mebibytes * 1024)
+
+
+def changed(chance, text, tokens):
+    """The text with a few places flipped, dropped, doubled, spliced or filled with something else; or a text of chance."""
+    if chance.random() < 0.1:
+        count = chance.randrange(300)
+        return chance.choice((chance.randbytes(count), bytes(chance.choices(rows.ALPHABET, k=count))))
+    text = bytearray(text)
+    for _ in range(chance.choice((1, 1, 1, 2, 4))):
+        at, end = sorted(chance.randrange(len(text) + 1) for _ in range(2))
+        digits = [place for place, byte in enumerate(text) if byte in b"0123456789"]
+        change = chance.randrange(10)
+        if change < 4 and digits:
+            text[chance.choice(digits)] = chance.choice(b"0123456789-. ")
+        elif change == 4 and at < len(text):
+            text[at] ^= 1 << chance.randrange(8)
+        elif change == 5:
+            del text[at : at + 1]
+        elif change == 6:
+            text[at:at] = text[at : at + 1]
+        elif change == 7:
+            text[at : at + chance.choice((0, 1, end - at))] = text[: end - at]
+        elif change == 8:
+            text[at:at] = chance.randbytes(1)
+        else:
+            text[at : at + chance.randrange(3)] = chance.choice(tokens)
+    return bytes(text)
+
+
+def random_case(chance):
+    """One changed input."""
+    reader = chance.choice(("drawings", "codes", "checks", "words"))
+    drawing, code = chance.choice(rows.DRAWING_BASES), chance.choice(rows.CODE_BASES)
+    words = chance.choice(rows.WORD_BASES[reader]).encode()
+    either = chance.random() < 0.5
+    if reader == "drawings" or reader == "checks" and either:
+        drawing = changed(chance, drawing, rows.DRAWING_TOKENS)
+    if reader == "codes" or reader == "checks" and not either:
+        code = changed(chance, code, rows.CODE_TOKENS)
+    if reader == "words":
+        words = changed(chance, words, rows.WORD_TOKENS).replace(b"\0", b"")
+    return due_case("changed " + reader, words.split(b" "), drawing, code)
+
+
+def cases_of(options):
+    """The cases: with the random ones as many as are asked for."""
+    if options.huge:
+        for words, drawing, code, status, text in rows.HUGE:
+            yield case_of("huge inputs", words, {"d": drawing, "c": code}, status, text)
+        return
+    count = 0
+    for cases in (row_cases(), cut_cases(), scarce_cases()):
+        for case in cases:
+            count += 1
+            yield case
+    chance = random.Random(options.seed)
+    for _ in range(options.runs - count):
+        yield random_case(chance)
+
+
+def enter(folder, program):
+    """Makes the folder in which a worker runs its cases, with the names that aren't plain files."""
+    global PROGRAM, PIPE, KEPT
+    KEPT = []
+    PROGRAM = program
+    os.chdir(tempfile.mkdtemp(dir=folder))
+    os.mkdir("folder")
+    os.symlink("gone", "dangling")
+    os.symlink("circle", "circle")
+    os.mkfifo("pipe")
+    # Held open for writing, so that nobody who opens it to read has to wait.
+    PIPE = os.open("pipe", os.O_RDWR)
+    for name in rows.COPIES:
+        Path(name).write_bytes(rows.DOWN)
+    Path("secret").touch(mode=0)
+
+
+def write_files(files):
+    """Writes the files of a case, in pieces so that the worker stays small."""
+    for name in ("d", "c"):
+        with open(name, "wb") as file:
+            for piece, count in files.get(name, []):
+                at_once = max(1, MEBIBYTE // max(1, len(piece)))
+                for _ in range(count // at_once):
+                    file.write(piece * at_once)
+                file.write(piece * (count % at_once))
+
+
+def count_in(file, text):
+    """How often the text stands in a file's pieces."""
+    return sum(piece.count(text) * count for piece, count in file)
+
+
+def bounds(case):
+    """The most seconds and MiB that are stated for a case."""
+    size = sum(len(piece) * count for file in case.files.values() for piece, count in file)
+    # Devices that never end are read up to the limit.
+    size += sum(limit for word in case.words for name, limit in rows.ENDLESS.items() if word.startswith(name))
+    moves = min(1 + count_in(case.files.get("c", []), b"\n"), rows.MOST_MOVES)
+    pairs = moves * count_in(case.files.get("d", []), b",") if case.words[:1] == [b"check"] else 0
+    memory = rows.BYTES_A_BYTE * size + rows.BYTES_A_MOVE * moves + rows.BYTES_A_WORD * len(case.words)
+    reading = rows.SECONDS_A_MEBIBYTE * size / MEBIBYTE + rows.SECONDS_A_MOVE * moves
+    return rows.SECONDS + reading + rows.SECONDS_A_PAIR * pairs, min(rows.MEBIBYTES + memory / MEBIBYTE, rows.MOST_MEBIBYTES)
+
+
+def spawn(case):
+    """Starts the program, and gives the number of its process."""
+    write = os.O_WRONLY | os.O_CREAT | os.O_TRUNC
+    reader, writer = os.pipe()
+    os.close(reader)
+    output = {
+        "file": (os.POSIX_SPAWN_OPEN, 1, "text", write, 0o600),
+        "full": (os.POSIX_SPAWN_OPEN, 1, "/dev/full", os.O_WRONLY, 0),
+        "read only": (os.POSIX_SPAWN_OPEN, 1, "/dev/null", os.O_RDONLY, 0),
+        "broken": (os.POSIX_SPAWN_DUP2, writer, 1),
+        "closed": (os.POSIX_SPAWN_CLOSE, 1),
+    }[case.output]
+    words = [os.fsencode(PROGRAM), *case.words]
+    if case.space:
+        words = [b"/bin/sh", b"-c", b'ulimit -v %d && exec "$0" "$@"' % case.space, *words]
+    process = os.posix_spawn(
+        words[0],
+        words,
+        {},
+        file_actions=[
+            (os.POSIX_SPAWN_OPEN, 0, "/dev/null", os.O_RDONLY, 0),
+            output,
+            (os.POSIX_SPAWN_OPEN, 2, "noise", write, 0o600),
+        ],
+        setpgroup=0,
+        # As a shell starts it: Python itself ignores these.
+        setsigdef=[signal.SIGPIPE, signal.SIGXFSZ],
+    )
+    os.close(writer)
+    return process
+
+
+def run(case, most_seconds):
+    """Runs the program, and ends it where it takes too long, or where this script is ended."""
+    Path("text").write_bytes(b"")
+    began = time.monotonic()
+    process = spawn(case)
+
+    def end(number, _):
+        os.killpg(process, signal.SIGKILL)
+        if number == signal.SIGTERM:
+            sys.exit(1)
+
+    signal.signal(signal.SIGALRM, end)
+    signal.signal(signal.SIGTERM, end)
+    signal.setitimer(signal.ITIMER_REAL, min(most_seconds, MOST_SECONDS))
+    _, state, usage = os.wait4(process, 0)
+    signal.setitimer(signal.ITIMER_REAL, 0)
+    signal.signal(signal.SIGTERM, signal.SIG_DFL)
+    return Ended(os.waitstatus_to_exitcode(state), time.monotonic() - began, usage.ru_maxrss / 1024)
+
+
+def is_in_form(case, status):
+    """Whether the text has the form of the command's answer with this status."""
+    command = case.words[0] if case.words else b""
+    form = rows.FORMS.get((command, status), rows.FORMS.get(status))
+    with open("text", "rb") as text:
+        moves = 0
+        for line in text:
+            if not rows.MOVE.fullmatch(line):
+                break
+            moves += 1
+        else:
+            line = b""
+        line += text.read(1024)
+    if (command, status) == (b"moves", 0):
+        return line == b"moves %d\n" % moves
+    return form is not None and moves == 0 and form.fullmatch(line) is not None
+
+
+def is_text(due):
+    """Whether the text is the one that is due; of a long one, whether it ends so."""
+    with open("text", "rb") as text:
+        long = text.seek(0, os.SEEK_END) > MEBIBYTE
+        text.seek(-MEBIBYTE if long else 0, os.SEEK_END if long else os.SEEK_SET)
+        return text.read().endswith(b"\n" + due) if long else text.read() == due
+
+
+def wrong_with(case, ended, most_seconds, most_mebibytes):
+    """What is wrong with how the run ended, or None."""
+    if ended.seconds > most_seconds:
+        return f"took {ended.seconds:.2f} s, where {most_seconds:.2f} are stated"
+    if ended.status < 0:
+        return f"ended by signal {-ended.status}"
+    if os.path.getsize("noise"):
+        return f"status {ended.status}, and wrote on standard error"
+    if ended.mebibytes > most_mebibytes:
+        return f"took {ended.mebibytes:.1f} MiB, where {most_mebibytes:.1f} are stated"
+    if ended.status not in case.statuses:
+        return f"ended with status {ended.status}, where one of {[*case.statuses]} is due"
+    if not is_in_form(case, ended.status):
+        return f"the text isn't one of status {ended.status}"
+    if ended.status == case.statuses[0] and case.text is not None and not is_text(case.text):
+        return f"status {ended.status} without the text {case.text[-80:]}"
+    return None
+
+
+def perform(case):
+    """Runs a case, and gives its part, what it took, and what is wrong, if anything."""
+    write_files(case.files)
+    most_seconds, most_mebibytes = bounds(case)
+    ended = run(case, most_seconds)
+    wrong = wrong_with(case, ended, most_seconds, most_mebibytes)
+    return case.part, ended, wrong and f"{case.part}: {wrong}\n{keep(case)}"
+
+
+def keep(case):
+    """Keeps the files of a case, where the worker has kept only few, and says where they are."""
+    shown = b" ".join(case.words)[:200].decode(errors="backslashreplace")
+    if len(KEPT) == MOST_KEPT:
+        return f"    words: {shown}"
+    KEPT.append(tempfile.mkdtemp(prefix="hostile_"))
+    for name in ("d", "c", "text", "noise"):
+        shutil.copy(name, KEPT[-1])
+    Path(KEPT[-1], "words").write_bytes(b"\0".join(case.words))
+    return f"    words: {shown}\n    files: {KEPT[-1]}"
+
+
+def main():
+    parser = argparse.ArgumentParser(description=__doc__.splitlines()[0])
+    parser.add_argument("--runs", type=int, default=3000, help="how many runs in all, at least the fixed ones")
+    parser.add_argument("--seed", type=int, default=1, help="the seed of the random ones")
+    parser.add_argument("--program", default=BUILT, help="the program")
+    parser.add_argument("--huge", action="store_true", help="the largest inputs instead")
+    options = parser.parse_args()
+    if not os.access(options.program, os.X_OK):
+        print(f"no program at {options.program}; this builds it: {BUILD}")
+        return 2
+    parts, faults = {}, []
+    with tempfile.TemporaryDirectory(prefix="hostile_") as folder:
+        settings = (folder, os.path.abspath(options.program))
+        with multiprocessing.get_context("fork").Pool(1 if options.huge else 2, enter, settings) as pool:
+            for part, ended, wrong in pool.imap_unordered(perform, cases_of(options), 1 if options.huge else 4):
+                runs, wrongs, seconds, mebibytes = parts.get(part, (0, 0, 0, 0))
+                most = max(seconds, ended.seconds), max(mebibytes, ended.mebibytes)
+                parts[part] = runs + 1, wrongs + bool(wrong), *most
+                faults += [wrong] if wrong else []
+                if len(faults) == MOST_WRONG:
+                    faults.append(f"ended after {MOST_WRONG} wrong runs")
+                    break
+    for part, (runs, wrongs, seconds, mebibytes) in parts.items():
+        print(f"{part}: {runs} runs, {wrongs} wrong, at most {seconds:.2f} s, at most {mebibytes:.0f} MiB")
+    print(*faults, sep="\n", end="\n" if faults else "")
+    return 1 if faults else 0
+
+
+if __name__ == "__main__":
+    sys.exit(main())

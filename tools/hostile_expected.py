@@ -1,0 +1,223 @@
+"""Says which status and text are due for words and files: a plain reading of the manual, apart from the program."""
+
+import re
+from fractions import Fraction
+from math import isqrt
+
+MOST_POINTS, MOST_DRAWING, MOST_CODE = 131_072, 16_777_216, 536_870_912
+PER_UNIT = {b"mm10": 10, b"mm100": 100, b"mm1000": 1000, b"in100": 100, b"in1000": 1000}
+OPTIONS = {
+    b"probe": (b"drawing form units bit rmax at limit", b"drawing bit rmax at"),
+    b"moves": (b"code units", b"code"),
+    b"check": (b"drawing form units bit rmax code", b"drawing bit rmax code"),
+}
+G_TAKEN = {Fraction(number, 10) for number in (170, 200, 210, 400, 490, 540, 610, 640, 800, 900, 911, 940)}
+
+
+class Refusal(Exception):
+    """A status and its line."""
+
+
+def named_values(words):
+    """The command and the values of its options, as they are written."""
+    if not words or words[0] not in OPTIONS:
+        raise Refusal(2, b"usage\n")
+    known, required = (names.split() for names in OPTIONS[words[0]])
+    values, rest = {}, list(words[1:])
+    if rest[-1:] == [b"--"]:
+        rest.pop()
+    while rest:
+        word = rest.pop(0)
+        name, equals, value = word[2:].partition(b"=")
+        if not equals and rest and (rest[0] == b"-" or not rest[0].startswith(b"-")):
+            equals, value = b"=", rest.pop(0)
+        if not word.startswith(b"--") or name not in known or name in values or not equals:
+            raise Refusal(2, b"usage\n")
+        values[name] = value
+    if not all(name in values for name in required):
+        raise Refusal(2, b"usage\n")
+    return words[0], values
+
+
+def numbers(text, separator, low, high):
+    """The numbers that a value writes, each in the range."""
+    parts = text.split(separator) if separator else [text]
+    if len(parts) != 1 + len(separator) or not all(re.fullmatch(rb"-?[0-9]{1,9}", part) for part in parts):
+        raise Refusal(2, b"usage\n")
+    if not all(low <= int(part) <= high for part in parts):
+        raise Refusal(2, b"usage\n")
+    return [int(part) for part in parts]
+
+
+def request(words):
+    """The command, its values, and its numbers, where the words are taken."""
+    command, values = named_values(words)
+    taken = {}
+    for name, separator, low, high in (
+        (b"at", b",", -32_768, 32_767),
+        (b"bit", b"/", 1, 2000),
+        (b"rmax", b"", 1, 8191),
+        (b"limit", b"", 1, 32_767),
+    ):
+        if name in values:
+            taken[name] = numbers(values[name], separator, low, high)
+    if values.get(b"form", b"loops") != b"loops" or values.get(b"units", b"mm100") not in PER_UNIT:
+        raise Refusal(2, b"usage\n")
+    return command, values, taken
+
+
+def points_of(words, room):
+    """The points of a loop's words, each with its place."""
+    points = []
+    for at, word in words:
+        pair = re.fullmatch(rb"(-?[0-9]{1,9}),(-?[0-9]{1,9})", word)
+        point = tuple(map(int, pair.groups())) if pair else None
+        for is_so, kind in (
+            (not pair, "syntax"),
+            (pair and not all(-32_768 <= number <= 32_767 for number in point), "out of range"),
+            (points and points[-1] == point, "same point"),
+            (len(points) == room, "too many"),
+        ):
+            if is_so:
+                raise Refusal(3, b"input loops %d %s\n" % (at, kind.encode()))
+        points.append(point)
+    if len(points) < 2:
+        raise Refusal(3, b"input loops %d short\n" % words[0][0])
+    if points[0] == points[-1]:
+        raise Refusal(3, b"input loops %d same point\n" % words[-1][0])
+    return points
+
+
+def edges_of(text):
+    """The edges of a drawing in loops form."""
+    edges, start = [], 0
+    for line in text.split(b"\n"):
+        shown = line[:-1] if line.endswith(b"\r") else line
+        words = [(start + word.start(), word.group()) for word in re.finditer(rb"[^ \t]+", shown)]
+        start += len(line) + 1
+        if words and not words[0][1].startswith(b"#"):
+            points = points_of(words, MOST_POINTS - len(edges))
+            edges += zip(points, points[1:] + points[:1])
+    return edges
+
+
+def square_apart(p, a, b):
+    """The squared distance of a point from an edge."""
+    dx, dy, px, py = b[0] - a[0], b[1] - a[1], p[0] - a[0], p[1] - a[1]
+    along, whole = px * dx + py * dy, dx * dx + dy * dy
+    if along <= 0:
+        return Fraction(px * px + py * py)
+    if along >= whole:
+        return Fraction((p[0] - b[0]) ** 2 + (p[1] - b[1]) ** 2)
+    return Fraction((px * dy - py * dx) ** 2, whole)
+
+
+def greatest_depth(edges, p, bit, rmax, limit):
+    """The greatest whole depth at which the bit over the point touches the edges at most."""
+    is_inside, depth = False, min(limit, bit[1] * rmax // bit[0])
+    for a, b in edges:
+        depth = min(depth, isqrt(int(square_apart(p, a, b) * bit[1] ** 2 / bit[0] ** 2)))
+        if (a[1] <= p[1]) != (b[1] <= p[1]):
+            side = (b[0] - a[0]) * (p[1] - a[1]) - (b[1] - a[1]) * (p[0] - a[0])
+            is_inside ^= (side > 0) == (a[1] <= p[1])
+    return depth if is_inside else 0
+
+
+def number_of(text):
+    """The number of a word of code."""
+    found = re.fullmatch(rb"([-+]?)([0-9]*)\.?([0-9]*)", text)
+    digits = found and found[2] + found[3]
+    if not digits or len(digits.lstrip(b"0")) > 27:
+        raise ValueError("number")
+    return Fraction(int(digits), 10 ** len(found[3])) * (-1 if found[1] == b"-" else 1)
+
+
+def judge_word(letter, text, said, units):
+    """Adds to what a line says what one more word says."""
+    if letter not in b"NGMXYZFSP":
+        raise ValueError("word")
+    value = number_of(text)
+    key = letter if letter not in b"GM" else b"G0" if letter == b"G" and value in (0, 1) else None
+    if key in said:
+        raise ValueError("twice")
+    if letter == b"G" and value in (20, 21) and (value == 20) != units.startswith(b"in"):
+        raise ValueError("units")
+    if letter == b"G" and value == 91:
+        raise ValueError("incremental")
+    if letter == b"G" and not key and value not in G_TAKEN:
+        raise ValueError("word")
+    if letter == b"M" and value not in (2, 3, 4, 5, 7, 8, 9, 30):
+        raise ValueError("word")
+    if letter in b"XYZ":
+        value *= PER_UNIT[units]
+        if value.denominator != 1:
+            raise ValueError("off grid")
+        if not (-32_768 if letter != b"Z" else -32_767) <= value <= 32_767:
+            raise ValueError("out of range")
+    said[key or letter + (b" last" if letter == b"M" and value in (2, 30) else b"")] = int(value)
+
+
+def said_by(line, units):
+    """What a line of code says."""
+    if len(line) > 1024:
+        raise ValueError("long line")
+    shown = re.sub(rb"\([^)]*\)|;.*", b"", line, flags=re.DOTALL)
+    if b"(" in shown:
+        raise ValueError("open comment")
+    shown, said = shown.translate(None, b" \t").upper(), {}
+    if shown != b"%":
+        for word in re.finditer(rb"(.)([-+.0-9]*)", shown, re.DOTALL):
+            judge_word(word[1], word[2], said, units)
+    return said
+
+
+def moves_of(text, units):
+    """The moves of a code, as the program lists them."""
+    place, moves = {}, []
+    for line, shown in enumerate(text.split(b"\n"), 1):
+        try:
+            said = said_by(shown[:-1] if shown.endswith(b"\r") else shown, units)
+            after = place | {letter: said[letter] for letter in (b"X", b"Y", b"Z") if letter in said}
+            if len(place) < 3 and after.get(b"Z", 0) < 0:
+                raise ValueError("unplaced")
+        except ValueError as fault:
+            raise Refusal(3, b"input code line %d %s\n" % (line, str(fault).encode())) from None
+        if len(place) == 3 and said.keys() & place.keys():
+            ends = [b"%d,%d,%d" % (end[b"X"], end[b"Y"], end[b"Z"]) for end in (place, after)]
+            moves.append(b"%d %s %s\n" % (line, *ends))
+        place = after
+        if b"M last" in said:
+            break
+    return moves
+
+
+def file_of(files, name, which, most):
+    """The bytes of a file."""
+    if name not in files:
+        # What stands in another folder isn't known here.
+        raise Refusal(*((4, b"absent %s\n" % which) if len(name) < 256 and not {*b"./"} & {*name} else (None, None)))
+    if len(files[name]) > most:
+        raise Refusal(3, b"input too long %s\n" % which)
+    return files[name]
+
+
+def due(words, files):
+    """The statuses that may be due, and the text that is due with the first of them; None where it isn't known here."""
+    try:
+        for word in words:
+            word.decode()
+        command, values, taken = request(words)
+        if command != b"moves":
+            edges = edges_of(file_of(files, values[b"drawing"], b"drawing", MOST_DRAWING))
+        if command == b"probe":
+            limit = taken.get(b"limit", [32_767])[0]
+            return (0,), b"depth %d\n" % greatest_depth(edges, taken[b"at"], taken[b"bit"], taken[b"rmax"][0], limit)
+        moves = moves_of(file_of(files, values[b"code"], b"code", MOST_CODE), values.get(b"units", b"mm100"))
+    except UnicodeDecodeError:
+        return (8,), b""
+    except Refusal as refusal:
+        status, line = refusal.args
+        return (range(6) if status is None else (status,)), line
+    if command == b"moves":
+        return (0,), b"".join(moves) + b"moves %d\n" % len(moves)
+    return (0, 1), b"clear %d moves\n" % len(moves)

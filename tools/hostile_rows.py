@@ -1,0 +1,425 @@
+"""Hostile inputs with the status and the text that are due for each, written by hand from the manual.
+
+A file is its bytes, or a list of pieces, each with how often it is repeated.
+"""
+
+import re
+
+# The lines that the program prints, by status, and for the first two by command too.
+COUNT = rb"(0|[1-9][0-9]*)"
+PLACE = rb",".join([rb"(0|-?[1-9][0-9]{0,4})"] * 3)
+MOVE = re.compile(rb"[1-9][0-9]* " + PLACE + b" " + PLACE + rb"\n")
+LOOPS_KINDS = rb" (syntax|out of range|same point|too many|short)"
+CODE_KINDS = rb" (word|number|off grid|twice|units|incremental|unplaced|out of range|long line|open comment|too many)"
+FORMS = {
+    (b"probe", 0): rb"depth (0|[1-9][0-9]{0,4})\n",
+    (b"moves", 0): rb"moves " + COUNT + rb"\n",
+    (b"check", 0): rb"clear " + COUNT + rb" moves\n",
+    (b"check", 1): rb"line [1-9][0-9]* (too deep|slant|gouge edge " + COUNT + rb"|outside)\n",
+    2: rb"usage\n",
+    3: rb"input (too long (drawing|code)|loops " + COUNT + LOOPS_KINDS + rb"|code line [1-9][0-9]*" + CODE_KINDS + rb")\n",
+    4: rb"absent (drawing|code)\n",
+    5: rb"read fault\n",
+    6: rb"",
+    7: rb"",
+    8: rb"",
+}
+FORMS = {case: re.compile(form) for case, form in FORMS.items()}
+
+SQUARE = b"0,0 1000,0 1000,1000 0,1000\n"
+ANGLE = b"0,0 400,0 400,200 200,200 200,400 0,400\n"
+PLATE = b"# a square plate with a square hole\r\n0,0 1000,0 1000,1000 0,1000\n\n\t300,300 700,300  700,700 300,700"
+DOWN = b"G21\nG0 Z2\nG0 X1 Y3\nG1 Z-1\nG1 X1 Y1\nM2\n"
+LENIENT = b"(by hand)\r\n%\nG21 G90 G17\nG64 P0.1 M3 S3000 ; on\nG0 Z5.0\ng0 x 1.00y 3 . 0 0\nG1 Z-1 F300\nX+1.5\nM5\nM2\n"
+PROBE = "probe --drawing=d --at=500,500 --bit=1/1 --rmax=600"
+MOVES = "moves --code=c"
+CHECK = "check --drawing=d --code=c --bit=1/1 --rmax=200"
+
+# Drawings for PROBE: the bytes, the status, the line.
+DRAWINGS = [
+    (b"", 0, "depth 0"),
+    (SQUARE, 0, "depth 500"),
+    (SQUARE[:-1], 0, "depth 500"),
+    (SQUARE[:-1] + b"\r", 0, "depth 500"),
+    (SQUARE.replace(b"\n", b"\r\n"), 0, "depth 500"),
+    (b"0,0 1000,0 1000,1000\r0,1000\n", 3, "input loops 11 syntax"),
+    (b"0,0 1,1\r\r\n", 3, "input loops 4 syntax"),
+    (b"\r", 0, "depth 0"),
+    (b" \t \n\r\n\t", 0, "depth 0"),
+    (b"\t0,0\t1000,0  1000,1000 \t 0,1000 \t\n", 0, "depth 500"),
+    (b"# 9,9\n \t# x\n#\n" + SQUARE, 0, "depth 500"),
+    (b"#" * 70_000, 0, "depth 0"),
+    (SQUARE[:-1] + b"#\n", 3, "input loops 21 syntax"),
+    (b"\0", 3, "input loops 0 syntax"),
+    (b"0,0 1,1\0\n", 3, "input loops 4 syntax"),
+    (b"0,0 1,1\n\x1a", 3, "input loops 8 syntax"),
+    (b"\xef\xbb\xbf" + SQUARE, 3, "input loops 0 syntax"),
+    (SQUARE.decode().encode("utf-16"), 3, "input loops 0 syntax"),
+    ("٠,٠ ١,١".encode(), 3, "input loops 0 syntax"),
+    ("0,0\u00a01,1".encode(), 3, "input loops 0 syntax"),
+    (b"0,0 1,1\v2,2\n", 3, "input loops 4 syntax"),
+    (b"0,0 1,1\f\n", 3, "input loops 4 syntax"),
+    (b"loop 0,0 1,1\n", 3, "input loops 0 syntax"),
+    ([(b"loop\n", 1_000_000)], 3, "input loops 0 syntax"),
+    ([(b"\n", 1_000_000)], 0, "depth 0"),
+    (b"0,0\n", 3, "input loops 0 short"),
+    (b"\n  5,5\n1,1 1,1\n", 3, "input loops 3 short"),
+    (b"0,0 0,0\n", 3, "input loops 4 same point"),
+    (b"0,0 1,1 -0,00\n", 3, "input loops 8 same point"),
+    (b"0,0 1,1\n0,0 1,1 1,1 x\n", 3, "input loops 16 same point"),
+    (b"32767,-32768 -32768,32767\n", 0, "depth 0"),
+    (b"-32768,-32768 32767,-32768 32767,32767 -32768,32767\n", 0, "depth 600"),
+    (b"32768,0 0,0\n", 3, "input loops 0 out of range"),
+    (b"0,0 0,-32769\n", 3, "input loops 4 out of range"),
+    (b"999999999,0 1,1\n", 3, "input loops 0 out of range"),
+    (b"1000000000,0 1,1\n", 3, "input loops 0 syntax"),
+    (b"0000000001,0 1,1\n", 3, "input loops 0 syntax"),
+    (b"000000001,0 -00000001,1\n", 0, "depth 0"),
+    (b"9" * 27 + b",0 1,1\n", 3, "input loops 0 syntax"),
+    ([(b"1,1 0,", 1), (b"0", 1_000_000)], 3, "input loops 4 syntax"),
+    (b"-,0 1,1\n", 3, "input loops 0 syntax"),
+    (b"--1,0 1,1\n", 3, "input loops 0 syntax"),
+    (b"+1,0 1,1\n", 3, "input loops 0 syntax"),
+    (b"1e3,0 1,1\n", 3, "input loops 0 syntax"),
+    (b"0x10,0 1,1\n", 3, "input loops 0 syntax"),
+    (b"1.0,0 1,1\n", 3, "input loops 0 syntax"),
+    (b"0,0 1;1\n", 3, "input loops 4 syntax"),
+    (b"0,0 1,1,1\n", 3, "input loops 4 syntax"),
+    (b"0,0 1, 1\n", 3, "input loops 4 syntax"),
+    (b"0,0 ,\n", 3, "input loops 4 syntax"),
+]
+
+# Codes for MOVES: the bytes, the status, the text.
+CODES = [
+    (b"", 0, "moves 0"),
+    (b"X0 Y0 Z5\nX1", 0, "2 0,0,500 100,0,500\nmoves 1"),
+    (b"X0 Y0 Z5\r\nX1\r", 0, "2 0,0,500 100,0,500\nmoves 1"),
+    (b"x 1 . 2 5 y0z\t1\nZ.5", 0, "2 125,0,100 125,0,50\nmoves 1"),
+    (b"G0X0Y0Z1\nG1Z-1F100\nX+2.", 0, "2 0,0,100 0,0,-100\n3 0,0,-100 200,0,-100\nmoves 2"),
+    (b"X0\rY0\n", 3, "input code line 1 word"),
+    (b"G21\r\r\n", 3, "input code line 1 word"),
+    (b" \t \n\r\n\t", 0, "moves 0"),
+    ([(b"\n", 1_000_000), (b"Q", 1)], 3, "input code line 1000001 word"),
+    (b"\0", 3, "input code line 1 word"),
+    (b"G1\0\n", 3, "input code line 1 word"),
+    (b"\xef\xbb\xbfG21\n", 3, "input code line 1 word"),
+    ("G21\n".encode("utf-16"), 3, "input code line 1 word"),
+    ("\u0425" "1\n".encode(), 3, "input code line 1 word"),
+    ("X\u0661\n".encode(), 3, "input code line 1 number"),
+    (b"G21\n\x1a", 3, "input code line 2 word"),
+    (b"(X1\nY1)", 3, "input code line 1 open comment"),
+    (b"G21 ((((", 3, "input code line 1 open comment"),
+    (b"(a (b) c)\n", 3, "input code line 1 word"),
+    (b"X1)\n", 3, "input code line 1 word"),
+    (b"(;)\n;(\n(a) ; (b\n()()\n", 0, "moves 0"),
+    (b"(\xff\0\x80)G21(\xff);\xff\n", 0, "moves 0"),
+    (b"%\nX0Y0Z0\n%(end)\nX1\n % ", 0, "4 0,0,0 100,0,0\nmoves 1"),
+    (b"%%\n", 3, "input code line 1 word"),
+    (b"% G21\n", 3, "input code line 1 word"),
+    (b"X1" + b" " * 1022 + b"\r\n", 0, "moves 0"),
+    (b"X1" + b" " * 1023 + b"\n", 3, "input code line 1 long line"),
+    (b";" + b"(" * 1023, 0, "moves 0"),
+    (b"(" + b"a" * 1024, 3, "input code line 1 long line"),
+    (b"X" + b"0" * 1023, 0, "moves 0"),
+    ([(b"G", 1), (b"1", 1_000_000)], 3, "input code line 1 long line"),
+    (b"N10 G21\nN10 X1\nN-5\nN.5", 0, "moves 0"),
+    (b"N1 N2\n", 3, "input code line 1 twice"),
+    (b"N\n", 3, "input code line 1 number"),
+    (b"X1 Y1 X1\n", 3, "input code line 1 twice"),
+    (b"G0 G1\n", 3, "input code line 1 twice"),
+    (b"G21 G21 G90 G90 M3 M3 M5\n", 0, "moves 0"),
+    (b"F1 S1 P1 f2\n", 3, "input code line 1 twice"),
+    (b"G21\nG91\n", 3, "input code line 2 incremental"),
+    (b"G20\n", 3, "input code line 1 units"),
+    (b"M2\n\xff\0((((\n" + b"Q" * 5000, 0, "moves 0"),
+    (b"X0Y0Z0\nM30 X1\n(((", 0, "2 0,0,0 100,0,0\nmoves 1"),
+    (b"M2 Q\n", 3, "input code line 1 word"),
+    (b"O100 sub\n", 3, "input code line 1 word"),
+    (b"#1=2\n", 3, "input code line 1 word"),
+    (b"X#1\n", 3, "input code line 1 number"),
+    (b"X[1+1]\n", 3, "input code line 1 number"),
+    (b"/G0\n", 3, "input code line 1 word"),
+    (b"G2 X1 I1\n", 3, "input code line 1 word"),
+    (b"G03\n", 3, "input code line 1 word"),
+    (b"M6 T1\n", 3, "input code line 1 word"),
+    (b"A1\n", 3, "input code line 1 word"),
+    (b"G+1 X1\nG00.000\nG-0\n", 0, "moves 0"),
+    (b"G1.5\n", 3, "input code line 1 word"),
+    (b"G91.1\nG91.2\n", 3, "input code line 2 word"),
+    (b"G" + b"9" * 27, 3, "input code line 1 word"),
+    (b"G" + b"9" * 28, 3, "input code line 1 number"),
+    (b"F" + b"9" * 27 + b"S." + b"0" * 400 + b"1", 0, "moves 0"),
+    (b"F1." + b"0" * 27, 3, "input code line 1 number"),
+    (b"X1.005\n", 3, "input code line 1 off grid"),
+    (b"X." + b"0" * 400 + b"1\n", 3, "input code line 1 off grid"),
+    (b"X327.67 Y-327.68 Z327.67\nX-327.68 Y327.67 Z-327.67\n", 0, "2 32767,-32768,32767 -32768,32767,-32767\nmoves 1"),
+    (b"X327.68\n", 3, "input code line 1 out of range"),
+    (b"Y-327.69\n", 3, "input code line 1 out of range"),
+    (b"Z-327.68\n", 3, "input code line 1 out of range"),
+    (b"X" + b"9" * 27, 3, "input code line 1 out of range"),
+    (b"X" + b"9" * 28, 3, "input code line 1 number"),
+    (b"X--1\n", 3, "input code line 1 number"),
+    (b"X1-\n", 3, "input code line 1 number"),
+    (b"X1.2.3\n", 3, "input code line 1 number"),
+    (b"X\n", 3, "input code line 1 number"),
+    (b"X+.\n", 3, "input code line 1 number"),
+    (b"X1e3\n", 3, "input code line 1 word"),
+    (b"X1,5\n", 3, "input code line 1 word"),
+    (b"1X\n", 3, "input code line 1 word"),
+    (b"Z-.01\n", 3, "input code line 1 unplaced"),
+    (b"X1Y1Z-1\n", 3, "input code line 1 unplaced"),
+    (b"X1Z1\nY1Z-1\n", 3, "input code line 2 unplaced"),
+]
+
+# Every G and M number of two digits.
+G_FINE, M_FINE = {0, 1, 17, 21, 40, 49, 54, 61, 64, 80, 90, 94}, {2, 3, 4, 5, 7, 8, 9, 30}
+G_KINDS = {20: "units", 91: "incremental"}
+FINE = (0, "moves 0")
+for number in range(100):
+    g_fault = (3, f"input code line 1 {G_KINDS.get(number, 'word')}")
+    CODES.append((b"G%d" % number, *(FINE if number in G_FINE else g_fault)))
+    CODES.append((b"M%02d" % number, *(FINE if number in M_FINE else (3, "input code line 1 word"))))
+
+# Drawings and codes for CHECK: the bytes of both, the status, the line.
+CHECKS = [
+    (ANGLE, DOWN, 0, "clear 2 moves"),
+    (ANGLE, b"", 0, "clear 0 moves"),
+    (ANGLE, DOWN.replace(b"X1 Y1", b"X3 Y1"), 1, "line 5 gouge edge 2"),
+    (ANGLE, DOWN.replace(b"Z-1", b"Z-2.01"), 1, "line 4 too deep"),
+    (ANGLE, DOWN.replace(b"X1 Y1", b"X1 Y1 Z1"), 1, "line 5 slant"),
+    (ANGLE, DOWN.replace(b"X1 Y3", b"X9 Y9"), 1, "line 4 outside"),
+    (b"", DOWN, 1, "line 4 outside"),
+    (b"", b"X0Y0Z0\nX9Y9\nX-9", 0, "clear 2 moves"),
+    (b"0,0\n", b"Q", 3, "input loops 0 short"),
+    (ANGLE, b"Q", 3, "input code line 1 word"),
+    (ANGLE, b"\0" + DOWN, 3, "input code line 1 word"),
+    ([(b"0,0 1,0\n", 60_000)], DOWN, 1, "line 4 outside"),
+]
+
+# Words beside the files d with SQUARE and c with DOWN: the words, the status, the text. The system passes no word of more
+# than 131,071 bytes on.
+AT = "--drawing=d --at=500,500 --bit=1/1"
+LISTED = "4 100,300,200 100,300,-100\n5 100,300,-100 100,100,-100\nmoves 2"
+WORDS = [
+    ([], 2, "usage"),
+    ([""], 2, "usage"),
+    (["probe"] * 10_000, 2, "usage"),
+    (["moves", *["--code=c"] * 10_000], 2, "usage"),
+    (["moves", *[f"--{n}" for n in range(10_000)]], 2, "usage"),
+    (["moves", "--code=" + "n" * 131_000], 5, "read fault"),
+    (["moves", "--units=" + "n" * 131_000], 2, "usage"),
+    (["n" * 131_000], 2, "usage"),
+    ([b"moves", b"--code=\xff"], 8, None),
+    ([b"\xc0\x80"], 8, None),
+    ([b"moves", b"--code=c", b"\xed\xa0\x80"], 8, None),
+    (["moves", "--code", ""], 4, "absent code"),
+    (["moves", "--code=c", ""], 2, "usage"),
+    (["moves", " --code=c"], 2, "usage"),
+    (["moves", "--code=\n"], 4, "absent code"),
+    (["moves", "--code=é"], 4, "absent code"),
+    (["moves", "—code=c"], 2, "usage"),
+    (["moves", "--code=c", "--units=mm100\n"], 2, "usage"),
+    ("help", 2, "usage"),
+    ("--help", 2, "usage"),
+    ("-h", 2, "usage"),
+    ("--version", 2, "usage"),
+    ("-V", 2, "usage"),
+    ("help probe", 2, "usage"),
+    ("Probe " + AT + " --rmax=600", 2, "usage"),
+    ("carve " + AT + " --rmax=600", 2, "usage"),
+    ("--drawing=d probe", 2, "usage"),
+    ("probe", 2, "usage"),
+    ("probe --help", 2, "usage"),
+    ("probe -h", 2, "usage"),
+    ("probe --version", 2, "usage"),
+    (PROBE, 0, "depth 500"),
+    (PROBE + " --", 0, "depth 500"),
+    (PROBE + " -- --", 2, "usage"),
+    (PROBE + " -- d", 2, "usage"),
+    (PROBE + " -", 2, "usage"),
+    (PROBE + " d", 2, "usage"),
+    (PROBE + " --help", 2, "usage"),
+    (PROBE + " --code=c", 2, "usage"),
+    (PROBE + " --drawing=d", 2, "usage"),
+    (PROBE + " --form=loops --units=in1000 --limit=7", 0, "depth 7"),
+    ("probe --rmax 600 --bit 1/1 --at 500,500 --drawing d", 0, "depth 500"),
+    ("probe --draw=d --at=500,500 --bit=1/1 --rmax=600", 2, "usage"),
+    ("probe --DRAWING=d --at=500,500 --bit=1/1 --rmax=600", 2, "usage"),
+    ("probe -drawing=d --at=500,500 --bit=1/1 --rmax=600", 2, "usage"),
+    ("probe --drawing --at=500,500 --bit=1/1 --rmax=600", 2, "usage"),
+    ("probe --at=500,500 --bit=1/1 --rmax=600 --drawing", 2, "usage"),
+    ("probe --at=500,500 --bit=1/1 --rmax=600 --drawing --", 2, "usage"),
+    ("probe --at=500,500 --bit=1/1 --rmax=600 --drawing -", 4, "absent drawing"),
+    ("probe --at=500,500 --bit=1/1 --rmax=600 --drawing=--", 4, "absent drawing"),
+    ("probe --at=500,500 --bit=1/1 --rmax=600 --drawing==d", 4, "absent drawing"),
+    ("probe --drawing=d --at -5,500 --bit=1/1 --rmax=600", 2, "usage"),
+    ("probe --drawing=d --at=-5,500 --bit=1/1 --rmax=600", 0, "depth 0"),
+    ("probe --drawing=d --at=-0,007 --bit=1/1 --rmax=600", 0, "depth 0"),
+    ("probe --drawing=d --at=32768,0 --bit=1/1 --rmax=600", 2, "usage"),
+    ("probe --drawing=d --at= --bit=1/1 --rmax=600", 2, "usage"),
+    ("probe --drawing=d --at=5 --bit=1/1 --rmax=600", 2, "usage"),
+    ("probe --drawing=d --at=5,5,5 --bit=1/1 --rmax=600", 2, "usage"),
+    ("probe --drawing=d --at=+5,5 --bit=1/1 --rmax=600", 2, "usage"),
+    ("probe --drawing=d --at=0000000005,5 --bit=1/1 --rmax=600", 2, "usage"),
+    ("probe --drawing=d --at=500,500 --bit=1 --rmax=600", 2, "usage"),
+    ("probe --drawing=d --at=500,500 --bit=0/1 --rmax=600", 2, "usage"),
+    ("probe --drawing=d --at=500,500 --bit=1/0 --rmax=600", 2, "usage"),
+    ("probe --drawing=d --at=500,500 --bit=2001/1 --rmax=600", 2, "usage"),
+    ("probe --drawing=d --at=500,500 --bit=-1/-1 --rmax=600", 2, "usage"),
+    ("probe --drawing=d --at=500,500 --bit=1/2000 --rmax=8191", 0, "depth 32767"),
+    ("probe --drawing=d --at=500,500 --bit=2000/1 --rmax=8191", 0, "depth 0"),
+    ("probe " + AT + " --rmax=0", 2, "usage"),
+    ("probe " + AT + " --rmax=8192", 2, "usage"),
+    ("probe " + AT + " --rmax=1e3", 2, "usage"),
+    ("probe " + AT + " --rmax=0x10", 2, "usage"),
+    ("probe " + AT + " --rmax=", 2, "usage"),
+    (PROBE + " --limit=0", 2, "usage"),
+    (PROBE + " --limit=32768", 2, "usage"),
+    (PROBE + " --limit=999999999999999999999999", 2, "usage"),
+    (PROBE + " --form=dxf", 2, "usage"),
+    (PROBE + " --form=", 2, "usage"),
+    (MOVES, 0, LISTED),
+    ("moves --units mm100 --code c", 0, LISTED),
+    (MOVES + " --units=in10", 2, "usage"),
+    (MOVES + " --units=MM100", 2, "usage"),
+    (MOVES + " --units=in100", 3, "input code line 1 units"),
+    (MOVES + " --code=c", 2, "usage"),
+    ("moves", 2, "usage"),
+    (CHECK, 0, "clear 2 moves"),
+    (CHECK.replace("200", "100"), 0, "clear 2 moves"),
+    (CHECK.replace("1/1", "101/100"), 1, "line 4 gouge edge 3"),
+    (CHECK.replace("200", "99"), 1, "line 4 too deep"),
+    (CHECK + " --at=5,5", 2, "usage"),
+    (CHECK + " --limit=5", 2, "usage"),
+    (CHECK.replace("--code=c", ""), 2, "usage"),
+]
+
+# Names that are no plain files, made by the script: the words, the status, the text.
+NAMES = [
+    ("moves --code=nothing", 4, "absent code"),
+    ("moves --code=dangling", 4, "absent code"),
+    ("moves --code=nowhere/c", 4, "absent code"),
+    ("moves --code=folder", 5, "read fault"),
+    ("moves --code=/", 5, "read fault"),
+    ("moves --code=c/", 5, "read fault"),
+    ("moves --code=c/c", 5, "read fault"),
+    ("moves --code=circle", 5, "read fault"),
+    ("moves --code=pipe", 5, "read fault"),
+    ("moves --code=" + "n" * 256, 5, "read fault"),
+    ("moves --code=" + "/" * 5000 + "c", 5, "read fault"),
+    ("moves --code=/proc/self/mem", 5, "read fault"),
+    ("moves --code=/dev/null", 0, "moves 0"),
+    ("moves --code=/dev/stdin", 0, "moves 0"),
+    ("moves --code=./folder/../c", 0, LISTED),
+    ("probe --drawing=/dev/zero --at=5,5 --bit=1/1 --rmax=9", 3, "input too long drawing"),
+    ("probe --drawing=/dev/full --at=5,5 --bit=1/1 --rmax=9", 3, "input too long drawing"),
+    ("probe --drawing=/dev/urandom --at=5,5 --bit=1/1 --rmax=9", 3, "input too long drawing"),
+    ("probe --drawing=pipe --at=5,5 --bit=1/1 --rmax=9", 5, "read fault"),
+    ("check --drawing=nothing --code=folder --bit=1/1 --rmax=9", 4, "absent drawing"),
+    ("check --drawing=folder --code=nothing --bit=1/1 --rmax=9", 5, "read fault"),
+    ("check --drawing=d --code=nothing --bit=1/1 --rmax=9", 4, "absent code"),
+    ("check --drawing=d --code=d --bit=1/1 --rmax=9", 3, "input code line 1 word"),
+    ("check --drawing=c --code=nothing --bit=1/1 --rmax=9", 3, "input loops 0 syntax"),
+    ("check --drawing=/dev/zero --code=/dev/zero --bit=1/1 --rmax=9", 3, "input too long drawing"),
+    (["moves", "--code=two\nlines"], 0, LISTED),
+    (["moves", "--code=naïve ☃"], 0, LISTED),
+    (["moves", "--code", "two words"], 0, LISTED),
+    (["moves", "--code=--code"], 0, LISTED),
+]
+COPIES = ["two\nlines", "naïve ☃", "two words", "--code"]
+
+# Outputs that take nothing, for answers of each kind: the words.
+UNWRITTEN = [PROBE, MOVES, CHECK, "usage", "moves --code=nothing", "moves --code=folder", "moves --code=d"]
+
+# Names that are read up to the limit, and how far that is.
+DRAWING_LIMIT, CODE_LIMIT = 16_777_216, 536_870_912
+ENDLESS = {b"--drawing=/dev/": DRAWING_LIMIT, b"--code=/dev/zero": CODE_LIMIT}
+
+# Larger inputs, in pieces that are repeated: the words, the drawing, the code, the status, the text.
+RING = [(b"0,0 1,1 ", 65_535), (b"2,3 4,5\n", 1)]
+# Edges that a check has to compare with each move, since they are nearer than the bit's greatest radius.
+NEAR = [(b"-9999,-9999 9999,-9999 9999,9999 -9999,9999\n", 1), (b"0,0 1,1\n", 65_000)]
+LARGE = [
+    (PROBE, [(b"1", DRAWING_LIMIT)], [], 3, "input loops 0 syntax"),
+    (PROBE, [(b"1", DRAWING_LIMIT + 1)], [], 3, "input too long drawing"),
+    (PROBE, [(b" ", DRAWING_LIMIT)], [], 0, "depth 0"),
+    (PROBE, [(b"\n", DRAWING_LIMIT)], [], 0, "depth 0"),
+    (PROBE, [(b"#", DRAWING_LIMIT)], [], 0, "depth 0"),
+    (PROBE, [(b"#\n", DRAWING_LIMIT // 2)], [], 0, "depth 0"),
+    (PROBE, [(b"\t \r\n", DRAWING_LIMIT // 4)], [], 0, "depth 0"),
+    (PROBE, [(SQUARE, 1), (b" ", DRAWING_LIMIT - 28)], [], 0, "depth 500"),
+    (PROBE, [(SQUARE, 1), (b" ", DRAWING_LIMIT - 27)], [], 3, "input too long drawing"),
+    (PROBE, [(b" ", DRAWING_LIMIT - 1), (b"5", 1)], [], 3, "input loops 16777215 syntax"),
+    (PROBE, RING, [], 0, "depth 0"),
+    (PROBE, [*RING, (b"9,9 8,8\n", 1)], [], 3, "input loops 524288 too many"),
+    (PROBE, [(b"0,0 1,1\n", 65_536)], [], 0, "depth 0"),
+    (PROBE, [(b"0,0 1,1\n", 65_537)], [], 3, "input loops 524288 too many"),
+    (PROBE, [(b"0,0 1,1 ", 65_536), (b"9,9\n", 1)], [], 3, "input loops 524288 too many"),
+    (CHECK, [(b"0,0 1,1\n", 65_536)], [(DOWN, 1)], 1, "line 4 outside"),
+    (CHECK.replace("200", "8191"), NEAR, [(b"X5Y5Z1\nZ-.01\n", 1), (b"X6Z-.9\nX5Z-.01\n", 50)], 0, "clear 101 moves"),
+    (MOVES, [], [(b"N1\n", 1_000_000), (b"Q", 1)], 3, "input code line 1000001 word"),
+    (MOVES, [], [(b"(" + b"a" * 1022 + b")\n", 20_000)], 0, "moves 0"),
+    (MOVES, [], [(b"X" + b"0" * 1023 + b"\n", 20_000)], 0, "moves 0"),
+    (MOVES, [], [(b"G90" * 341 + b"\n", 20_000)], 0, "moves 0"),
+    (MOVES, [], [(b"X0Y0Z1\n", 1), (b"X1\n", 300_000)], 0, "moves 300000"),
+]
+
+# The largest inputs, likewise.
+FAR = (b"X-327.68Y-327.68Z327.67\n", 1)
+MOST_MOVES = 8_388_608
+HUGE = [
+    (MOVES, [], [(b" ", CODE_LIMIT)], 3, "input code line 1 long line"),
+    (MOVES, [], [(b"\n", CODE_LIMIT)], 0, "moves 0"),
+    (MOVES, [], [(b";" + b"x" * 1022 + b"\n", CODE_LIMIT // 1024)], 0, "moves 0"),
+    (MOVES, [], [(b"\n", CODE_LIMIT - 1), (b"Q", 1)], 3, "input code line 536870912 word"),
+    (MOVES, [], [(b"\n", CODE_LIMIT + 1)], 3, "input too long code"),
+    (MOVES, [], [(b"\n", CODE_LIMIT // 2 + 1)], 0, "moves 0"),
+    (MOVES, [], [(b"M2\n", 1), (b"\xff", CODE_LIMIT - 3)], 0, "moves 0"),
+    (MOVES, [], [FAR, (b"Y0\n", 3_000_000)], 0, "moves 3000000"),
+    (MOVES, [], [FAR, (b"Z9\n", MOST_MOVES)], 0, "moves 8388608"),
+    (MOVES, [], [FAR, (b"Z9\n", MOST_MOVES + 1)], 3, "input code line 8388610 too many"),
+    (MOVES, [], [FAR, (b"Z9" + b" " * 61 + b"\n", MOST_MOVES - 1)], 0, "moves 8388607"),
+    (CHECK, [(SQUARE, 1)], [FAR, (b"Z9\n", MOST_MOVES)], 0, "clear 8388608 moves"),
+    (CHECK, [(b"0,0 1,1\n", 65_536)], [FAR, (b"Z9" + b" " * 61 + b"\n", MOST_MOVES - 1)], 0, "clear 8388607 moves"),
+    (MOVES, [], [FAR, (b"\n", 100_000_000), (b"Z-327.67\n", MOST_MOVES)], 0, "moves 8388608"),
+    (CHECK.replace("200", "8191"), NEAR, [(b"X5Y5Z1\nZ-.01\n", 1), (b"X6Z-.9\nX5Z-.01\n", 2500)], 0, "clear 5001 moves"),
+    ("moves --code=/dev/zero", [], [], 3, "input too long code"),
+]
+
+# Limits of the address space, in MiB, under which an answer may be the want of memory.
+SPACES = [*range(4, 40, 2), 48, 64, 96, 128]
+
+# What is stated of memory: so many MiB, and bytes for each byte of the files, move of the code and word; never more than the
+# last, in MiB. And of time: so many seconds, and seconds for each MiB, move, and, in a check, pair of a move and an edge.
+MEBIBYTES, BYTES_A_BYTE, BYTES_A_MOVE, BYTES_A_WORD, MOST_MEBIBYTES = 32, 1, 80, 512, 1024
+SECONDS, SECONDS_A_MEBIBYTE, SECONDS_A_MOVE, SECONDS_A_PAIR = 2, 0.05, 2e-6, 2e-7
+
+# What changed inputs are made of: inputs to begin with, and what is put into them.
+DRAWING_BASES = [SQUARE, ANGLE, PLATE, b"0,0 1,1", b"-5,-5 999,-5 500,999\r\n0,0 9,0 0,9\r\n", b""]
+CODE_BASES = [
+    DOWN,
+    DOWN[4:],
+    LENIENT,
+    LENIENT.replace(b"G21", b""),
+    b"%\nN1 G20 G1 X1Y1Z1\nN2 X.5 F1 S2 P3 (a) ;b\n%\nM30\nQ",
+    b"X0Y0Z0\nZ-1\nX1\nY1\nX0Y0Z1",
+]
+SMALL = "probe --drawing=d --at=0,0 --bit=3/7 --rmax=8191 --limit=99"
+APART = "probe --rmax 600 --bit 1/1 --at 500,500 --drawing d"
+WORD_BASES = {
+    "drawings": [PROBE, PROBE.replace("500,500", "501,200"), SMALL],
+    "codes": [MOVES, MOVES + " --units=mm1000", MOVES + " --units=in100", MOVES + " --units=mm10"],
+    "checks": [CHECK, CHECK + " --units=mm10", CHECK.replace("1/1", "2000/1999")],
+    "words": [PROBE + " --limit=7", MOVES + " --units=mm100", CHECK, APART],
+}
+ALPHABET = b"0123456789012345678901234567890123456789,,,,....---++     \t\t\r\n\n\n\n\n#GXYZMNgxyzFSP()%;=/\xe9"
+BREAKS = [b"\n", b"\r\n", b"\r", b" ", b"\t", b"\0", b"\xef\xbb\xbf", b"\v"]
+DRAWING_TOKENS = b"0,0|-0,0|32767,-32768|32768,0|-|--1,1|+1,1|1e3,1|0x10,1|,|1,1,1|999999999,1|1000000000,1|#|loop"
+DRAWING_TOKENS = [*DRAWING_TOKENS.split(b"|"), b"\n#", *BREAKS, *DRAWING_BASES]
+CODE_TOKENS = b"G0 G1 G2 G20 G21 G90 G91 G91.1 M2 M30 M6 X1 Y2.5 Z-1 Z2 X1.005 X327.68 Z-327.68 N10 F100 S1 P.1 O1 #1=2 [1]"
+CODE_TOKENS = [*CODE_TOKENS.split(), *b"/ ( ) (a) ; % . - + -- 1e3 0 99".split(), b"9" * 27, *BREAKS, *CODE_BASES]
+WORD_TOKENS = b"--|-|=|--help|-h|--limit=1|--limit|--units=mm10|--form=loops|--code=c|--at=1,1|--rmax=0|1/1|8191|32768|-5,5|,"
+WORD_TOKENS = [*WORD_TOKENS.split(b"|"), *b" | --| - | -- |\xc3\xa9|\xff|\n|  |probe| d|0".split(b"|")]
+
+# Where the run isn't root's: the words, the status, the text.
+UNREADABLE = [("moves --code=secret", 5, "read fault")]
