@@ -35,10 +35,12 @@ def ray():
     left, top, size = 70, 30, 240
     parts = [
         f'<rect x="{left}" y="{top}" width="{size}" height="{size}" fill="#eef" stroke="black"/>',
-        text(left + size / 2, top + size + 32, "moment s, from 0 to 1"),
-        text(left - 12, top + size / 2, "t", "end"),
-        text(left - 12, top + size, "a", "end"),
-        text(left - 12, top + 10, "b", "end"),
+        text(left + size / 2, top + size + 32, "moment s = S/N"),
+        text(left, top + size + 16, "0"),
+        text(left + size, top + size + 16, "1"),
+        text(left - 12, top + size / 2, "t = T/N", "end"),
+        text(left - 12, top + size, "a, 0", "end"),
+        text(left - 12, top + 10, "b, 1", "end"),
         line(150, 200, 304, 92, "#c00", 2, 'marker-end="url(#tip)"'),
         dot(150, 200, "#c00"),
         text(150, 222, "a hit"),

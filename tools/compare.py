@@ -1,0 +1,285 @@
+#!/usr/bin/env python3
+"""Compares the built program with plain programs of the definitions on random drawings and codes; run by hand.
+
+Every case comes from the seed and its number alone. Each line that is printed tells what was compared, and how much
+of it differs; the inputs of what differs are printed and kept. The spread at the end tells how the cases came out.
+"""
+
+import argparse
+import concurrent.futures
+import math
+import random
+import shutil
+import subprocess
+import sys
+import tempfile
+import time
+from collections import Counter
+from pathlib import Path
+
+import cases
+import definitions
+import sampling
+from definitions import MOST_DEPTH, Bit
+from wrong_definitions import WRONG
+
+BUILT = Path(__file__).resolve().parent.parent / "crates" / "engrave_cli" / "out" / "engrave_cli"
+HOW_TO_BUILD = "(cd crates/engrave_cli && rt run -- probe --drawing=data/plate.loops --at=500,500 --bit=1/1 --rmax=600)"
+
+# At depth 1 its radius is 1/2000. A grid point off the outline is at least 1 from the ends of edges. Where its foot on
+# an edge of length L is between the ends, it is off the edge's line, and its distance to that is a whole number over L.
+# So where no edge is longer than 2000, no edge has a point in the open disc, and the depth 1 fits exactly where the
+# point is inside.
+SLIM = Bit(1, 2000, 1)
+LONGEST_FOR_SLIM = 2000
+
+# how many depths, codes that are checked, and codes whose moves are listed, for each drawing
+DEPTHS, CODES, LISTED = 12, 14, 2
+
+SPARED, WITHIN = "clear: edges of which no sampled point is removed", "clear: removed points that are inside"
+COMPARED = ["inside", "depth", "moves", "check", SPARED, WITHIN]
+
+
+class Comparison:
+    """One drawing, with points and codes, against the program."""
+
+    def __init__(self, program, folder, seed, number):
+        self.rng = random.Random(f"{seed}/{number}")
+        self.program, self.number, self.folder = program, number, folder / f"case{number}"
+        self.folder.mkdir()
+        self.compared, self.differing, self.spread, self.differences = Counter(), Counter(), Counter(), []
+        self.kind, self.reach, self.loops = cases.drawing(self.rng)
+        self.edges = definitions.edges_of(self.loops)
+        self.drawing = self.write("drawing.loops", cases.loops_text(self.rng, self.loops))
+        self.spread[f"drawing: {self.kind}"] += 1
+
+    def write(self, name, text):
+        path = self.folder / name
+        path.write_bytes(text.encode())
+        return path
+
+    def run(self, *words):
+        """The status and the text of a run of the program."""
+        done = subprocess.run([self.program, *words], stdout=subprocess.PIPE, stderr=subprocess.DEVNULL)
+        return done.returncode, done.stdout.decode()
+
+    def agree(self, what, due, got, *inputs):
+        self.compared[what] += 1
+        if due != got:
+            self.differing[what] += 1
+            said = " ".join(map(str, inputs))
+            lines = [f"{what} differs in case {self.number}: {said}", f"due: {due}", f"got: {got}"]
+            files = [path for path in sorted(self.folder.iterdir()) if str(path) in said]
+            self.differences.append("\n".join(lines + [f"--- {path}\n{path.read_bytes().decode()}" for path in files]))
+
+    def geometry(self, bit):
+        return [f"--drawing={self.drawing}", f"--bit={bit.sn}/{bit.sd}", f"--rmax={bit.rmax}"]
+
+    def probe(self, what, bit, p, limit, due):
+        words = ["probe", *self.geometry(bit), f"--at={p[0]},{p[1]}"]
+        words += [] if limit == MOST_DEPTH and self.rng.random() < 0.5 else [f"--limit={limit}"]
+        self.agree(what, (0, f"depth {due}\n"), self.run(*words), *words)
+
+    def grid_points(self):
+        """All grid points of a small box around the drawing; or two windows of it, and points on rows of vertices."""
+        left, right, low, high = cases.box(self.edges, 1)
+        if (right - left + 1) * (high - low + 1) <= 150:
+            return [(x, y) for x in range(left, right + 1) for y in range(low, high + 1)]
+        points = {cases.spot(self.rng, self.edges) for _ in range(15)}
+        for x, y in (self.rng.choice(self.edges)[0], cases.spot(self.rng, self.edges)):
+            points.update(cases.on_grid(x + v, y + w) for v in (-1, 0, 1) for w in (-1, 0, 1))
+        points.update((self.rng.randint(left, right), a[1]) for a, _ in self.edges[:10])
+        return sorted(points)
+
+    def compare_inside(self):
+        """Gives the points that are inside."""
+        points = self.grid_points()
+        inside = [p for p in points if definitions.is_inside(self.edges, p)]
+        lengths = [definitions.squared_distance(a, b) for a, b in self.edges]
+        if max(lengths, default=0) <= LONGEST_FOR_SLIM**2:
+            for p in points:
+                self.probe("inside", SLIM, p, 1, 1 if p in inside else 0)
+                self.spread[f"inside: {'inside' if p in inside else 'not inside'}"] += 1
+        return inside
+
+    def compare_depths(self, inside):
+        for _ in range(DEPTHS):
+            bit = cases.bit(self.rng, self.reach)
+            p = self.rng.choice(inside) if inside and self.rng.random() < 0.8 else cases.spot(self.rng, self.edges)
+            touching = cases.touching_depth(self.edges, bit, p)
+            limits = [touching, touching + 1, touching - 1, self.rng.randint(1, 2 * touching + 1), 400, 400, 400]
+            limit = MOST_DEPTH if self.rng.random() < 0.05 else min(max(self.rng.choice(limits), 1), MOST_DEPTH)
+            depth = definitions.greatest_depth(self.edges, bit, limit, p)
+            self.probe("depth", bit, p, limit, depth)
+            self.spread["depth: " + self.bound(bit, limit, p, depth)] += 1
+
+    def bound(self, bit, limit, p, depth):
+        """What keeps the depth from being greater."""
+        if depth == limit:
+            return "at the limit"
+        if not definitions.is_inside(self.edges, p):
+            return "0, not inside"
+        if definitions.is_too_wide(bit, depth + 1):
+            return "at rmax"
+        return "0, an edge is near" if depth == 0 else "bound by an edge"
+
+    def compare_listed(self):
+        for number in range(LISTED):
+            units = self.rng.choice(list(cases.UNITS))
+            code = cases.listed_code(self.rng, units)
+            path = self.write(f"listed{number}.ngc", code.text())
+            lines = [f"{mv.line} {','.join(map(str, mv.start))} {','.join(map(str, mv.end))}\n" for mv in code.moves]
+            words = ["moves", f"--code={path}", f"--units={units}"]
+            self.agree("moves", (0, "".join(lines) + f"moves {len(code.moves)}\n"), self.run(*words), *words)
+            self.spread["moves: listed"] += len(code.moves)
+
+    def compare_checks(self, inside):
+        for number in range(CODES):
+            bit = cases.bit(self.rng, self.reach)
+            units, code = cases.checked_code(self.rng, self.edges, self.reach, bit, inside)
+            path = self.write(f"checked{number}.ngc", code.text())
+            words = ["check", *self.geometry(bit), f"--code={path}", f"--units={units}"]
+            found = definitions.verdict(self.edges, bit, code.moves)
+            got = self.run(*words)
+            self.agree("check", due_of(found, code.moves), got, *words)
+            if got == (0, f"clear {len(code.moves)} moves\n"):
+                self.sample_clear(bit, code.moves, words)
+            elif found and found[1] in ("gouge", "outside"):
+                self.look_for_witness(bit, *found)
+            else:
+                self.spread[f"check: {found[1] if found else 'differs'}"] += 1
+
+    def sample_clear(self, bit, moves, words):
+        """No sampled moment of code that is called clear may remove a sampled point that isn't inside."""
+        deep = [mv for mv in moves if definitions.is_deep(mv)]
+        touching = any(sampling.just_touches(self.rng, bit, mv, edge) for mv in deep for edge in self.edges)
+        depth = "below the surface" if deep else "at or above the surface"
+        self.spread[f"check: clear, {depth}" + (", just touching an edge" if touching else "")] += 1
+        for mv in deep:
+            for edge in self.edges:
+                self.agree(SPARED, None, sampling.edge_witness(self.rng, bit, mv, edge), *words, mv, edge)
+            for s, w in sampling.removed_points(self.rng, bit, mv):
+                self.agree(WITHIN, True, definitions.is_inside(self.edges, w), *words, mv, s, w)
+
+    def look_for_witness(self, bit, mv, fault, number):
+        if fault == "outside":
+            found = sampling.outside_witness(self.rng, self.edges, bit, mv)
+            self.spread["check: outside"] += 1
+        else:
+            found = sampling.edge_witness(self.rng, bit, mv, self.edges[number])
+            self.spread["check: gouge, " + failing_tests(bit, mv, self.edges[number])] += 1
+        self.spread[f"witness: {fault}, {'found' if found else 'not found'}"] += 1
+
+    def whole(self):
+        inside = self.compare_inside()
+        self.compare_depths(inside)
+        self.compare_listed()
+        self.compare_checks(inside)
+        if not self.differences:
+            shutil.rmtree(self.folder)
+        return self
+
+
+def due_of(found, moves):
+    """The status and the text that are due."""
+    if found is None:
+        return (0, f"clear {len(moves)} moves\n")
+    mv, fault, number = found
+    return (1, f"line {mv.line} {fault}" + (f" edge {number}\n" if fault == "gouge" else "\n"))
+
+
+def failing_tests(bit, mv, edge):
+    """Which of the tests fail; the disc at the start is that at the end of the move before."""
+    failing = []
+    if not all(definitions.is_edge_clear(bit, end.at, definitions.depth_of(end.h), edge) for end in (mv.start, mv.end)):
+        failing.append("end discs")
+    if not all(definitions.is_nowhere_negative(definitions.corner_margin(bit, mv, u)) for u in edge):
+        failing.append("corners")
+    if definitions.is_crossing(mv, edge):
+        failing.append("crossing")
+    return " and ".join(failing)
+
+
+def take_wrong(kind):
+    if kind:
+        name, wrong = WRONG[kind]
+        setattr(definitions, name, wrong)
+
+
+def compare_case(arguments):
+    case = Comparison(*arguments).whole()
+    return case.number, case.compared, case.differing, case.spread, case.differences
+
+
+def results(options, folder, kind=None):
+    """The results of the cases, in order; what is left is given up with the generator."""
+    pool = concurrent.futures.ProcessPoolExecutor(options.workers, initializer=take_wrong, initargs=(kind,))
+    numbers = range(options.cases) if options.case is None else [options.case]
+    try:
+        yield from pool.map(compare_case, ((options.program, folder, options.seed, n) for n in numbers), chunksize=4)
+    finally:
+        pool.shutdown(cancel_futures=True)
+
+
+def compare(options, folder):
+    """Prints what was compared, and gives whether all agrees."""
+    compared, differing, spread, shown = Counter(), Counter(), Counter(), 0
+    started = time.monotonic()
+    for number, more, less, come, differences in results(options, folder):
+        compared, differing, spread = compared + more, differing + less, spread + come
+        for difference in differences[: max(0, 5 - shown)]:
+            print(difference, flush=True)
+            shown += 1
+        if time.monotonic() - started > 60 * options.minutes:
+            print(f"case {number} is the last, since the time is up")
+            break
+    for what in COMPARED:
+        print(f"{what}: {compared[what]} compared, {differing[what]} differ")
+    print(f"\nthe spread, after {time.monotonic() - started:.0f} s:")
+    for what in sorted(spread):
+        print(f"  {what}: {spread[what]}")
+    return not differing
+
+
+def find_out_wrong(options, folder):
+    """Prints in which case each wrong definition was found out, and gives whether all were."""
+    kinds = list(WRONG) if options.wrong == "all" else [options.wrong]
+    all_found = True
+    for kind in kinds:
+        found = next(((n, less) for n, _, less, _, _ in results(options, folder, kind) if less), None)
+        told = f"found out in case {found[0]} by {', '.join(found[1])}" if found else "not found out"
+        print(f"{kind}: {told}", flush=True)
+        all_found = all_found and found is not None
+        shutil.rmtree(folder)
+        folder.mkdir()
+    return all_found
+
+
+def read_options():
+    parser = argparse.ArgumentParser(description=__doc__.splitlines()[0])
+    parser.add_argument("--seed", default="1")
+    parser.add_argument("--cases", type=int, default=1000, help="how many drawings")
+    parser.add_argument("--case", type=int, help="this case alone")
+    parser.add_argument("--minutes", type=float, default=math.inf, help="after so many, no further case is compared")
+    parser.add_argument("--program", type=Path, default=BUILT)
+    parser.add_argument("--workers", type=int, default=2, help="how many processes")
+    parser.add_argument("--wrong", choices=["all", *WRONG], help="take a wrong definition, which must be found out")
+    return parser.parse_args()
+
+
+def main():
+    options = read_options()
+    if not options.program.is_file():
+        print(f"no program at {options.program}; build it by {HOW_TO_BUILD}")
+        return 2
+    folder = Path(tempfile.mkdtemp(prefix="compare-"))
+    agrees = find_out_wrong(options, folder) if options.wrong else compare(options, folder)
+    if agrees or options.wrong:
+        shutil.rmtree(folder)
+    else:
+        print(f"the files of the cases that differ are kept in {folder}")
+    return 0 if agrees else 1
+
+
+if __name__ == "__main__":
+    sys.exit(main())

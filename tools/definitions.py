@@ -1,0 +1,238 @@
+"""The definitions of docs/DEFINITIONS.md as plain programs: exact, without haste, and as near to their words as can be.
+
+A point is a pair of whole or rational numbers, an edge a pair of points. Nothing here is taken from the tool's code:
+what a definition says of all points of an edge, or of all moments of a move, is decided by the least value there is.
+"""
+
+from fractions import Fraction
+from typing import NamedTuple
+
+MOST_DEPTH = 32767
+
+
+class Bit(NamedTuple):
+    """Its radius at depth z is sn z / sd; rmax is the greatest one it may cut with."""
+
+    sn: int
+    sd: int
+    rmax: int
+
+
+class Place(NamedTuple):
+    """A grid point and a height above the surface."""
+
+    x: int
+    y: int
+    h: int
+
+    @property
+    def at(self):
+        return (self.x, self.y)
+
+
+class Move(NamedTuple):
+    """A straight move, with the number of its line."""
+
+    line: int
+    start: Place
+    end: Place
+
+
+def edges_of(loops):
+    return [(loop[i], loop[(i + 1) % len(loop)]) for loop in loops for i in range(len(loop))]
+
+
+def on_the_way(first, last, s):
+    return first + s * (last - first)
+
+
+def is_on_edge(w, edge):
+    """For some s from 0 to 1, w is a + s (b - a): s is what the axis says along which the ends differ."""
+    a, b = edge
+    axis = 0 if a[0] != b[0] else 1
+    s = Fraction(w[axis] - a[axis]) / (b[axis] - a[axis])
+    return 0 <= s <= 1 and all(on_the_way(a[i], b[i], s) == w[i] for i in (0, 1))
+
+
+def passes_row(edge, w):
+    a, b = edge
+    return (a[1] <= w[1]) != (b[1] <= w[1])
+
+
+def crosses_right_of(edge, w):
+    (ax, ay), (bx, by) = edge
+    return ax + Fraction(w[1] - ay) * (bx - ax) / (by - ay) > w[0]
+
+
+def is_odd(count):
+    return count % 2 == 1
+
+
+def is_inside(edges, w):
+    """w is on no edge, and an odd number of edges pass its row to its right."""
+    if any(is_on_edge(w, edge) for edge in edges):
+        return False
+    return is_odd(sum(1 for edge in edges if passes_row(edge, w) and crosses_right_of(edge, w)))
+
+
+def squared_distance(v, w):
+    return (w[0] - v[0]) ** 2 + (w[1] - v[1]) ** 2
+
+
+def nearest_point(p, edge):
+    """The point of the edge that is nearest to p: the foot of the perpendicular, or else an end."""
+    (ax, ay), (bx, by) = edge
+    s = ((p[0] - ax) * (bx - ax) + (p[1] - ay) * (by - ay)) / Fraction((bx - ax) ** 2 + (by - ay) ** 2)
+    s = min(max(s, 0), 1)
+    return (on_the_way(ax, bx, s), on_the_way(ay, by, s))
+
+
+def is_closer(squared, bit, depth):
+    """The distance of this square is below sn depth / sd, the bit's radius; both sides times the denominators."""
+    return squared.numerator * bit.sd**2 < (bit.sn * depth) ** 2 * squared.denominator
+
+
+def is_in_disc(bit, p, depth, w):
+    return depth > 0 and is_closer(squared_distance(p, w), bit, depth)
+
+
+def is_edge_clear(bit, p, depth, edge):
+    """No point of the edge is in the disc: the nearest one isn't."""
+    return not is_in_disc(bit, p, depth, nearest_point(p, edge))
+
+
+def is_too_wide(bit, depth):
+    return bit.sn * depth > bit.sd * bit.rmax
+
+
+def is_within(depth, limit):
+    return depth <= limit
+
+
+def greatest_depth(edges, bit, limit, p):
+    """The greatest depth that fits, of all. What is the same at every depth is computed before the walk."""
+    inside = is_inside(edges, p)
+    squared = min((squared_distance(p, nearest_point(p, edge)) for edge in edges), default=None)
+
+    def fits(z):
+        return z == 0 or (
+            inside and is_within(z, limit) and not is_too_wide(bit, z) and not is_closer(squared, bit, z)
+        )
+
+    return max(z for z in range(limit + 1) if fits(z))
+
+
+def depth_of(h):
+    return max(0, -h)
+
+
+def is_deep(mv):
+    return depth_of(mv.start.h) > 0 or depth_of(mv.end.h) > 0
+
+
+def is_too_deep(bit, mv):
+    return is_too_wide(bit, depth_of(mv.start.h)) or is_too_wide(bit, depth_of(mv.end.h))
+
+
+def is_slant(mv):
+    """One height is above the surface and the other below it, and the places differ."""
+    low, high = sorted((mv.start.h, mv.end.h))
+    return low < 0 < high and mv.start.at != mv.end.at
+
+
+def corner_margin(bit, mv, u):
+    """A, B and C of |p0 + s (p1 - p0) - u|^2 sd^2 - sn^2 (z0 + s (z1 - z0))^2."""
+    (x0, y0), (x1, y1) = mv.start.at, mv.end.at
+    z0, z1 = depth_of(mv.start.h), depth_of(mv.end.h)
+    # each of the squared terms is (first + s by)^2, with its factor
+    terms = [(x0 - u[0], x1 - x0, bit.sd**2), (y0 - u[1], y1 - y0, bit.sd**2), (z0, z1 - z0, -(bit.sn**2))]
+    return (
+        sum(k * by * by for first, by, k in terms),
+        sum(k * 2 * first * by for first, by, k in terms),
+        sum(k * first * first for first, by, k in terms),
+    )
+
+
+def value_at(quadratic, s):
+    a, b, c = quadratic
+    return a * s * s + b * s + c
+
+
+def lowest_moment(quadratic):
+    """The moment from 0 to 1 at which A s^2 + B s + C is least: an end, or where the parabola turns."""
+    a, b, _ = quadratic
+    moments = [0, 1]
+    if a != 0 and 0 < Fraction(-b, 2 * a) < 1:
+        moments.append(Fraction(-b, 2 * a))
+    return min(moments, key=lambda s: value_at(quadratic, s))
+
+
+def is_nowhere_negative(quadratic):
+    return value_at(quadratic, lowest_moment(quadratic)) >= 0
+
+
+def side(a, b, w):
+    """Above 0 where w is left of the line from a through b, 0 on it, and below 0 right of it."""
+    return (b[0] - a[0]) * (w[1] - a[1]) - (b[1] - a[1]) * (w[0] - a[0])
+
+
+def are_parted(a, b, v, w):
+    """v and w lie strictly on opposite sides of the line through a and b."""
+    return side(a, b, v) * side(a, b, w) < 0
+
+
+def is_crossing(mv, edge):
+    return are_parted(*edge, mv.start.at, mv.end.at) and are_parted(mv.start.at, mv.end.at, *edge)
+
+
+def passes_edge(bit, mv, edge):
+    """The three tests: the discs at the ends, the two corners, no crossing."""
+    return (
+        is_edge_clear(bit, mv.start.at, depth_of(mv.start.h), edge)
+        and is_edge_clear(bit, mv.end.at, depth_of(mv.end.h), edge)
+        and all(is_nowhere_negative(corner_margin(bit, mv, u)) for u in edge)
+        and not is_crossing(mv, edge)
+    )
+
+
+def first_deep(mv):
+    return mv.start.at if depth_of(mv.start.h) > 0 else mv.end.at
+
+
+def named_edge(failing):
+    return min(failing)
+
+
+def fault_of(edges, bit, mv):
+    """What is wrong with the move, and the edge that it gouges; None where it is clear."""
+    if not is_deep(mv):
+        return None
+    if is_too_deep(bit, mv):
+        return ("too deep", None)
+    if is_slant(mv):
+        return ("slant", None)
+    failing = [number for number, edge in enumerate(edges) if not passes_edge(bit, mv, edge)]
+    if failing:
+        return ("gouge", named_edge(failing))
+    return None if is_inside(edges, first_deep(mv)) else ("outside", None)
+
+
+def verdict(edges, bit, moves):
+    """The first move that isn't clear, with its fault and edge; None where every move is clear."""
+    for mv in moves:
+        fault = fault_of(edges, bit, mv)
+        if fault:
+            return (mv, *fault)
+    return None
+
+
+def place_at(mv, s):
+    return (on_the_way(mv.start.x, mv.end.x, s), on_the_way(mv.start.y, mv.end.y, s))
+
+
+def depth_at(mv, s):
+    return -on_the_way(mv.start.h, mv.end.h, s)
+
+
+def is_removed(bit, mv, s, w):
+    return is_in_disc(bit, place_at(mv, s), depth_at(mv, s), w)

@@ -1,0 +1,76 @@
+"""Samples rational moments of a move and rational points, to see whether one removes a point that isn't inside."""
+
+from fractions import Fraction
+
+from definitions import (
+    corner_margin,
+    depth_at,
+    is_inside,
+    is_removed,
+    lowest_moment,
+    nearest_point,
+    on_the_way,
+    place_at,
+    side,
+    squared_distance,
+)
+
+
+def part(rng):
+    """A rational number from 0 to 1."""
+    over = rng.randint(1, 10 ** rng.randint(1, 4))
+    return Fraction(rng.randint(0, over), over)
+
+
+def point_of(edge, s):
+    (ax, ay), (bx, by) = edge
+    return (on_the_way(ax, bx, s), on_the_way(ay, by, s))
+
+
+def moments_about(rng, bit, mv, edge):
+    """The ends, moments at which the edge is likely to be met, and some at random."""
+    moments = [Fraction(0), Fraction(1)] + [lowest_moment(corner_margin(bit, mv, u)) for u in edge]
+    start, end = side(*edge, mv.start.at), side(*edge, mv.end.at)
+    if start * end < 0:
+        moments.append(Fraction(start, start - end))
+    return moments + [part(rng), part(rng)]
+
+
+def just_touches(rng, bit, mv, edge):
+    """At one of the sampled moments the rim of the disc touches the edge."""
+    for s in moments_about(rng, bit, mv, edge):
+        p, depth = place_at(mv, s), depth_at(mv, s)
+        if depth > 0 and squared_distance(p, nearest_point(p, edge)) * bit.sd**2 == (bit.sn * depth) ** 2:
+            return True
+    return False
+
+
+def edge_witness(rng, bit, mv, edge):
+    """A moment that removes a point of the edge, and that point, if there is one among the samples."""
+    for s in moments_about(rng, bit, mv, edge):
+        if depth_at(mv, s) > 0:
+            for w in (nearest_point(place_at(mv, s), edge), *edge, point_of(edge, part(rng))):
+                if is_removed(bit, mv, s, w):
+                    return s, w
+    return None
+
+
+def removed_points(rng, bit, mv):
+    """Moments and points that they remove: near the rim of the disc, at its middle, and anywhere in it."""
+    for s in (Fraction(0), Fraction(1), part(rng), part(rng), part(rng)):
+        depth, (x, y) = depth_at(mv, s), place_at(mv, s)
+        if depth <= 0:
+            continue
+        radius = Fraction(bit.sn) * depth / bit.sd
+        for share in (0, part(rng), *[1 - Fraction(1, 10 ** rng.randint(1, 9)) for _ in range(5)]):
+            # ((1 - t^2) / (1 + t^2), 2 t / (1 + t^2)) is a rational point of the unit circle
+            t = part(rng) * rng.choice([-1, 1])
+            length = share * radius / (1 + t * t) * rng.choice([-1, 1])
+            w = (x + length * (1 - t * t), y + length * 2 * t)
+            if is_removed(bit, mv, s, w):
+                yield s, w
+
+
+def outside_witness(rng, edges, bit, mv):
+    """A moment that removes a point that isn't inside, and that point, if there is one among the samples."""
+    return next(((s, w) for s, w in removed_points(rng, bit, mv) if not is_inside(edges, w)), None)
