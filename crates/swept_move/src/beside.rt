@@ -11,15 +11,15 @@ use plane_exact::point::{Point, Seg};
 
 // Whether the edge lies at least the bit's greatest radius from the path on one side of it: left, right, below or above.
 // It takes no product, and holds of most edges of a drawing.
-pub fn is_beside(mv: &Move, bit: &Bit, s: &Seg) -> bool
+pub fn is_beside(mv: &Move, bit: &Bit, edge: &Seg) -> bool
     requires { ¬ IsTooDeep bit.now mv.now }
-    ensures beside { IsTrue result ↔ IsBeside bit.now mv.now s.now }
-    ensures passes { IsTrue result → PassesEdge bit.now mv.now s.now }
+    ensures beside { IsTrue result ↔ IsBeside bit.now mv.now edge.now }
+    ensures passes { IsTrue result → PassesEdge bit.now mv.now edge.now }
 {
     let from = point(&mv.from);
     let to = point(&mv.to);
-    across(from, to).is_apart(across(s.a, s.b), bit.rmax())
-        || up(from, to).is_apart(up(s.a, s.b), bit.rmax())
+    across(from, to).is_apart(across(edge.a, edge.b), bit.rmax())
+        || up(from, to).is_apart(up(edge.a, edge.b), bit.rmax())
 }
 
 // A range of an axis.

@@ -23,25 +23,25 @@ pub fn clear_of(mv: &Move, bit: &Bit, s: Seg) -> bool
 }
 
 // The tests, those that take the least work first.
-fn passes_tests(mv: &Move, bit: &Bit, s: &Seg) -> bool
-    ensures { IsTrue result ↔ PassesEdge bit.now mv.now s.now }
+fn passes_tests(mv: &Move, bit: &Bit, edge: &Seg) -> bool
+    ensures { IsTrue result ↔ PassesEdge bit.now mv.now edge.now }
 {
-    !is_crossing(mv, s) && are_corners_clear(mv, bit, s) && are_ends_clear(mv, bit, s)
+    !is_crossing(mv, edge) && are_corners_clear(mv, bit, edge) && are_ends_clear(mv, bit, edge)
 }
 
 // Whether the discs at the ends of the move hold no point of the edge.
-fn are_ends_clear(mv: &Move, bit: &Bit, s: &Seg) -> bool
-    ensures { IsTrue result ↔ (IsEdgeClear bit.now mv.now.from.at (depth_of mv.now.from.h) s.now × IsEdgeClear bit.now mv.now.to.at (depth_of mv.now.to.h) s.now) }
+fn are_ends_clear(mv: &Move, bit: &Bit, edge: &Seg) -> bool
+    ensures { IsTrue result ↔ (IsEdgeClear bit.now mv.now.from.at (depth_of mv.now.from.h) edge.now × IsEdgeClear bit.now mv.now.to.at (depth_of mv.now.to.h) edge.now) }
 {
-    is_edge_clear(*s, point(&mv.from), bit, depth(&mv.from))
-        && is_edge_clear(*s, point(&mv.to), bit, depth(&mv.to))
+    is_edge_clear(*edge, point(&mv.from), bit, depth(&mv.from))
+        && is_edge_clear(*edge, point(&mv.to), bit, depth(&mv.to))
 }
 
 // Whether no disc of the move holds an end of the edge.
-fn are_corners_clear(mv: &Move, bit: &Bit, s: &Seg) -> bool
-    ensures { IsTrue result ↔ (IsNowhereNegative (corner_margin bit.now mv.now s.now.a) × IsNowhereNegative (corner_margin bit.now mv.now s.now.b)) }
+fn are_corners_clear(mv: &Move, bit: &Bit, edge: &Seg) -> bool
+    ensures { IsTrue result ↔ (IsNowhereNegative (corner_margin bit.now mv.now edge.now.a) × IsNowhereNegative (corner_margin bit.now mv.now edge.now.b)) }
 {
-    is_corner_clear(mv, bit, s.a) && is_corner_clear(mv, bit, s.b)
+    is_corner_clear(mv, bit, edge.a) && is_corner_clear(mv, bit, edge.b)
 }
 
 // Whether no disc of the move holds the corner.
@@ -52,12 +52,12 @@ fn is_corner_clear(mv: &Move, bit: &Bit, corner: Point) -> bool
 }
 
 // Whether path and edge cross, with their ends strictly on opposite sides of each other.
-fn is_crossing(mv: &Move, s: &Seg) -> bool
-    ensures { IsTrue result ↔ IsCrossing mv.now s.now }
+fn is_crossing(mv: &Move, edge: &Seg) -> bool
+    ensures { IsTrue result ↔ IsCrossing mv.now edge.now }
 {
     let from = point(&mv.from);
     let to = point(&mv.to);
-    are_parted(s.a, s.b, from, to) && are_parted(from, to, s.a, s.b)
+    are_parted(edge.a, edge.b, from, to) && are_parted(from, to, edge.a, edge.b)
 }
 
 // Whether `c` and `d` lie strictly on opposite sides of the line through `a` and `b`.

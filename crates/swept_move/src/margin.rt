@@ -1,5 +1,6 @@
-// By how much the square of a corner's distance from the tip exceeds that of the bit's radius, along a move: a quadratic in
-// the moment.
+// Along a move: SD^2 times the square of a corner's distance from the tip, less SN^2 times the square of the depth, where the
+// depth goes evenly from that of the start to that of the finish. It is a quadratic in the moment, from 0 to 1, and negative
+// just where the bit's disc of that depth holds the corner.
 ghost use mir.Syntax.{w64, w128};
 ghost use Rattle.std.specs.Prelude.{◌≡◌, ◌↔◌, ◌⊎◌, ◌≤◌, pos, negsuc, ◌+ℤ◌, ◌-ℤ◌, ◌*ℤ◌, ◌≤ℤ◌, FitsSigned, IsTrue};
 ghost use Rattle.plane_exact.specs.Distance.{square};
@@ -7,13 +8,13 @@ ghost use Rattle.plane_exact.specs.Product.{IsProduct};
 ghost use Rattle.swept_move.specs.Range.{IsMargin};
 ghost use Rattle.engrave_model.specs.Clear.{corner_margin, IsNowhereNegative};
 
-use crate::tip::{depth_down, point, sinks};
+use crate::tip::{descent, point, signed_depth};
 use plane_exact::bit::Bit;
 use plane_exact::moves::Move;
 use plane_exact::point::Point;
 use plane_exact::product::dot;
 
-// a s^2 + 2 half s + c, where s is the moment.
+// a s^2 + 2 half s + c at the moment s.
 #[derive(Clone, Copy)]
 pub struct Margin {
     pub a: i64,
@@ -24,7 +25,7 @@ pub struct Margin {
     ghost c_range: { IsMargin c },
 }
 
-// The square of one of the bit's numbers.
+// The square of SN or SD.
 fn squared(number: u32) -> i64
     requires { number ≤ 2000 }
     ensures value { result ≡ square (pos number) }
@@ -51,7 +52,7 @@ fn times_wide(a: i64, b: i64) -> i128
     a as i128 * b as i128
 }
 
-// How much the product of two ways exceeds that of two depths, each times the square of the bit's number for it.
+// SD^2 * ways - SN^2 * depths, where `ways` is a product of two ways on the grid and `depths` one of two depths.
 fn excess(bit: &Bit, ways: i64, depths: i64) -> i64
     requires ways { IsProduct ways }
     requires depths { IsProduct depths }
@@ -61,8 +62,8 @@ fn excess(bit: &Bit, ways: i64, depths: i64) -> i64
     times(squared(bit.sd()), ways) - times(squared(bit.sn()), depths)
 }
 
-// The product of two numbers of the size of a depth.
-fn depths(a: i64, b: i64) -> i64
+// The product of two numbers, each a depth or a difference of two depths.
+fn product_of_depths(a: i64, b: i64) -> i64
     requires a_low { negsuc 32766 ≤ℤ a }
     requires a_high { a ≤ℤ pos 32767 }
     requires b_low { negsuc 32766 ≤ℤ b }
@@ -73,8 +74,7 @@ fn depths(a: i64, b: i64) -> i64
     a * b
 }
 
-// The product of the ways from the corner to the start and from there to the finish: above 0 where the move begins by
-// leaving the corner.
+// (from - corner) · (to - from): above 0 where the move from `from` to `to` begins by leaving the corner.
 fn away(from: Point, to: Point, corner: Point) -> i64
     ensures value { result ≡ (from.x -ℤ corner.x) *ℤ (to.x -ℤ from.x) +ℤ (from.y -ℤ corner.y) *ℤ (to.y -ℤ from.y) }
     ensures range { IsProduct result }
@@ -82,8 +82,8 @@ fn away(from: Point, to: Point, corner: Point) -> i64
     -dot(from, corner, to)
 }
 
-// The square of the corner's distance from the tip, less that of the bit's radius, times the square of the bit's second
-// number: a quadratic in the moment.
+// SD^2 |from + s (to - from) - corner|^2 - SN^2 (start + s descent)^2, where s is the moment, `start` the depth at the start
+// and `descent` how much deeper the finish is.
 pub fn margin_at(mv: &Move, bit: &Bit, corner: Point) -> Margin
     ensures a { result.a ≡ (corner_margin bit.now mv.now corner).a }
     ensures half { pos 2 *ℤ result.half ≡ (corner_margin bit.now mv.now corner).b }
@@ -91,12 +91,20 @@ pub fn margin_at(mv: &Move, bit: &Bit, corner: Point) -> Margin
 {
     let from = point(&mv.from);
     let to = point(&mv.to);
-    let start = depth_down(&mv.from);
-    let sinks = sinks(mv);
+    let start = signed_depth(&mv.from);
+    let descent = descent(mv);
     Margin {
-        a: excess(bit, dot(from, to, to), depths(sinks, sinks)),
-        half: excess(bit, away(from, to, corner), depths(start, sinks)),
-        c: excess(bit, dot(corner, from, from), depths(start, start)),
+        a: excess(bit, dot(from, to, to), product_of_depths(descent, descent)),
+        half: excess(
+            bit,
+            away(from, to, corner),
+            product_of_depths(start, descent),
+        ),
+        c: excess(
+            bit,
+            dot(corner, from, from),
+            product_of_depths(start, start),
+        ),
     }
 }
 

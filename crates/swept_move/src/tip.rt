@@ -21,7 +21,7 @@ pub fn depth(place: &Place) -> u32
 }
 
 // The same as a signed number.
-pub fn depth_down(place: &Place) -> i64
+pub fn signed_depth(place: &Place) -> i64
     ensures value { result ≡ pos (depth_of place.now.h) }
     ensures low { pos 0 ≤ℤ result }
     ensures high { result ≤ℤ pos 32767 }
@@ -29,11 +29,11 @@ pub fn depth_down(place: &Place) -> i64
     depth(place) as i64
 }
 
-// How much deeper the move's finish is than its start.
-pub fn sinks(mv: &Move) -> i64
+// How much deeper the move's finish is than its start: below 0 where it rises.
+pub fn descent(mv: &Move) -> i64
     ensures value { result ≡ pos (depth_of mv.now.to.h) -ℤ pos (depth_of mv.now.from.h) }
     ensures low { negsuc 32766 ≤ℤ result }
     ensures high { result ≤ℤ pos 32767 }
 {
-    depth_down(&mv.to) - depth_down(&mv.from)
+    signed_depth(&mv.to) - signed_depth(&mv.from)
 }
