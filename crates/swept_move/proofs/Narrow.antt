@@ -4,7 +4,7 @@ use Rattle.std.proofs.Common.{◌≡◌, ◌↔◌, ℕ, ◌≤◌, ℤ, pos, ne
 use borrow.Author.Differences.{true_is_lt}
 use Rattle.std.proofs.lemmas.Int.{ints, by_lt_z, to_z-of_z}
 use Rattle.integer_algebra.proofs.Ring.{ring, V, K, ◌⊕◌, ◌⊖◌, ◌⊗◌}
-use Rattle.integer_algebra.proofs.Order.{IsWithin, product_within, times_negative, times_of_nonpos, sign_of_negative}
+use Rattle.integer_algebra.proofs.Order.{product_within, times_negative, times_of_nonpos, sign_of_negative}
 use Rattle.plane_exact.specs.Plane.{IsCoordinate}
 use Rattle.plane_exact.specs.Product.{IsProduct}
 use Rattle.plane_exact.proofs.Ranges.{wide, narrow}
@@ -16,48 +16,6 @@ wide_is z fits = to_z-of_z w64 z fits
 
 pub read_product : (r d : ℤ) → IsProduct r → r ≡ d → wide r ≡ d
 read_product r d range e = omega (arith, ints)
-
--- ---- the square of a number of the bit, times a product
-
-module _ (s p : ℤ) (low : pos 0 ≤ℤ s) (high : s ≤ℤ pos 4000000) (on : IsProduct p) where
-  both_read : wide s *ℤ wide p ≡ s *ℤ p
-  both_read = ap₂ (λ u v. u *ℤ v) (wide_is s (omega (arith, ints))) (wide_is p (omega (arith, ints)))
-
-  bounds : IsWithin (pos 34358689800000000) (s *ℤ p)
-  bounds = product_within (pos 4000000) (pos 8589672450) s p (record { low = omega (arith, ints); high = high }) (record { low = omega (arith, ints); high = on.high })
-
-  pub product_fits : FitsSigned w64 (wide s *ℤ wide p)
-  product_fits =
-      let within = bounds in
-      let low = within.low in
-      let high = within.high in
-      let fits : FitsSigned w64 (s *ℤ p) = omega (arith, ints) in
-      subst (FitsSigned w64) (sym both_read) fits
-
-  -- t is the product as the code made it
-  pub is_product : (t : ℤ) → t ≡ wide s *ℤ wide p → t ≡ s *ℤ p
-  is_product t e = e ∙ both_read
-
-  pub product_bounds : (t : ℤ) → t ≡ wide s *ℤ wide p → IsWithin (pos 34358689800000000) t
-  product_bounds t e = subst (IsWithin (pos 34358689800000000)) (sym (is_product t e)) bounds
-
--- the difference of two such products, as the code takes it
-pub record IsExcess (t u a b : ℤ) : Type 0 where
-  pub fits : FitsSigned w64 (wide t -ℤ wide u)
-  pub value : wide (wide t -ℤ wide u) ≡ a -ℤ b
-  pub range : IsMargin (wide (wide t -ℤ wide u))
-
-pub excess_of : (t u a b : ℤ) → t ≡ a → u ≡ b → IsWithin (pos 34358689800000000) t → IsWithin (pos 34358689800000000) u → IsExcess t u a b
-excess_of t u a b e f p q =
-    let p_low = p.low in
-    let p_high = p.high in
-    let q_low = q.low in
-    let q_high = q.high in
-    let t_is = wide_is t (omega (arith, ints)) in
-    let u_is = wide_is u (omega (arith, ints)) in
-    let fits : FitsSigned w64 (wide t -ℤ wide u) = omega (arith, ints) in
-    let is = wide_is (wide t -ℤ wide u) fits in
-    record { fits = fits; value = omega (arith, ints); range = record { low = omega (arith, ints); high = omega (arith, ints) } }
 
 -- ---- the product of two depths
 
@@ -72,15 +30,8 @@ depths_range a b a_low a_high b_low b_high =
 
 -- ---- the product of the ways from u to the start of a move, and from there to its finish
 
-pub record IsTurned (r t : ℤ) : Type 0 where
-  pub value : wide (pos 0 -ℤ wide r) ≡ t
-  pub range : IsProduct (wide (pos 0 -ℤ wide r))
-
-pub turned : (r d t : ℤ) → IsProduct r → r ≡ d → pos 0 -ℤ d ≡ t → IsTurned r t
-turned r d t range e f =
-    let r_is = wide_is r (omega (arith, ints)) in
-    let is = wide_is (pos 0 -ℤ wide r) (omega (arith, ints)) in
-    record { value = omega (arith, ints); range = record { low = omega (arith, ints); high = omega (arith, ints) } }
+pub turned : (r d t : ℤ) → IsProduct r → r ≡ d → pos 0 -ℤ d ≡ t → wide (pos 0 -ℤ wide r) ≡ t
+turned r d t range e f = omega (arith, ints)
 
 pub way_turned : (fx fy tx ty ux uy : ℤ)
     → pos 0 -ℤ ((ux -ℤ fx) *ℤ (tx -ℤ fx) +ℤ (uy -ℤ fy) *ℤ (ty -ℤ fy)) ≡ (fx -ℤ ux) *ℤ (tx -ℤ fx) +ℤ (fy -ℤ uy) *ℤ (ty -ℤ fy)

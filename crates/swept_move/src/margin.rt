@@ -1,11 +1,10 @@
 // Along a move: SD^2 times the square of a corner's distance from the tip, less SN^2 times the square of the depth, where the
 // depth goes evenly from that of the start to that of the finish. It is a quadratic in the moment, from 0 to 1, and negative
 // just where the bit's disc of that depth holds the corner.
-ghost use mir.Syntax.{w64, w128};
-ghost use Rattle.std.specs.Prelude.{◌≡◌, ◌↔◌, ◌⊎◌, ◌≤◌, pos, negsuc, ◌+ℤ◌, ◌-ℤ◌, ◌*ℤ◌, ◌≤ℤ◌, FitsSigned, IsTrue};
+ghost use Rattle.std.specs.Prelude.{◌≡◌, ◌↔◌, ◌⊎◌, ◌≤◌, pos, negsuc, ◌+ℤ◌, ◌-ℤ◌, ◌*ℤ◌, ◌≤ℤ◌, IsTrue};
 ghost use Rattle.plane_exact.specs.Distance.{square};
 ghost use Rattle.plane_exact.specs.Product.{IsProduct};
-ghost use Rattle.swept_move.specs.Range.{IsMargin};
+ghost use Rattle.swept_move.specs.Range.{IsMargin, IsScaled};
 ghost use Rattle.engrave_model.specs.Clear.{corner_margin, IsNowhereNegative};
 
 use crate::tip::{descent, point, signed_depth};
@@ -35,12 +34,14 @@ fn squared(number: u32) -> i64
     number as i64 * number as i64
 }
 
-// A product that 64 bits hold.
-fn times(a: i64, b: i64) -> i64
-    requires { FitsSigned w64 (a *ℤ b) }
-    ensures { result ≡ a *ℤ b }
+// The square of SN or SD, times a product.
+fn scaled(number: u32, product: i64) -> i64
+    requires number { number ≤ 2000 }
+    requires product { IsProduct product }
+    ensures value { result ≡ square (pos number) *ℤ product }
+    ensures range { IsScaled result }
 {
-    a * b
+    squared(number) * product
 }
 
 // The product of two coefficients, which 64 bits needn't hold.
@@ -59,7 +60,7 @@ fn excess(bit: &Bit, ways: i64, depths: i64) -> i64
     ensures value { result ≡ square (pos bit.now.sd) *ℤ ways -ℤ square (pos bit.now.sn) *ℤ depths }
     ensures range { IsMargin result }
 {
-    times(squared(bit.sd()), ways) - times(squared(bit.sn()), depths)
+    scaled(bit.sd(), ways) - scaled(bit.sn(), depths)
 }
 
 // The product of two numbers, each a depth or a difference of two depths.
