@@ -1,4 +1,4 @@
--- What the tests at the ends of a move and at the ends of an edge say of the hits there.
+-- First law: a hit on the border fails test 1, at an end of the move, or test 2, at an end of the edge.
 use Rattle.std.proofs.Common.{◌≡◌, ℕ, ℤ, pos, ◌+ℤ◌, ◌-ℤ◌, ◌*ℤ◌, ◌≤ℤ◌, ◌<ℤ◌, [], ◌∷◌, arith, refl, ap₂}
 use Rattle.std.proofs.lemmas.Int.{ints}
 use Rattle.integer_algebra.proofs.Ring.{ring, V, K, ◌⊕◌, ◌⊖◌, ◌⊗◌}

@@ -1,4 +1,5 @@
--- An edge from which a pass keeps off at every moment passes the tests, and so does one that lies beside the path.
+-- The quick test: an edge from which a pass keeps off at every moment passes the tests, which is the first law the other way
+-- round; and so does an edge that lies beside the path.
 use Rattle.std.proofs.Common.{◌≡◌, inl, inr, ℕ, ◌≤◌, ℤ, pos, ◌+ℤ◌, ◌-ℤ◌, ◌*ℤ◌, ◌≤ℤ◌, ◌<ℤ◌, neg_ℤ, [], ◌∷◌, arith, refl, subst, ap, ap₂, ◌∙◌}
 use Rattle.std.proofs.lemmas.Int.{ints, by_lt_z}
 use Rattle.integer_algebra.proofs.Ring.{ring, V, K, M, ◌⊕◌, ◌⊖◌, ◌⊗◌}

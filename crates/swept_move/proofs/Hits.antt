@@ -1,4 +1,6 @@
--- A straight pass of a cone over a straight edge: the places at which a disc of the pass holds a point of the edge.
+-- First law: along a direction in which the way stays and the depth doesn't fall, a hit stays a hit.
+--
+-- A straight pass of a cone over a straight edge, and the places at which a disc of the pass holds a point of the edge.
 --
 -- A place is a triple S, T, N: the moment S / N of the pass and the point T / N of the edge. With e the way from the edge's
 -- start to the start of the path, q the path and d the edge, the way from the point to the tip, times N, is

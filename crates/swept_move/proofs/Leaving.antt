@@ -1,4 +1,5 @@
--- A pass whose border holds no hit, and whose path doesn't cross the edge, has no hit at all.
+-- First law: the ray leaves the square, or never does. So a pass whose border holds no hit, and whose path doesn't cross the
+-- edge, has no hit at all.
 --
 -- From a hit one goes along a level direction: one in which the way from the edge's point to the tip stays. The sense of it is
 -- chosen so that the depth doesn't fall. Then one leaves the square of the moments and the edge's points at its border, which

@@ -1,11 +1,15 @@
 -- The lemmas of the crate.
-pub mod Border
-pub mod Boxes
-pub mod Cleared
+
+-- the first law of docs/PROOFS.md, step by step
 pub mod Hits
-pub mod Leaving
-pub mod Narrow
-pub mod Quadratic
 pub mod Ray
+pub mod Leaving
+pub mod Quadratic
+pub mod Border
 pub mod Removing
 pub mod Swept
+-- the quick test of an edge beside a move
+pub mod Boxes
+pub mod Cleared
+-- the code's 64-bit numbers
+pub mod Narrow

@@ -1,4 +1,4 @@
--- Products and signs of the numbers of 64 bits by which a move is compared with a corner, as the code makes them.
+-- 64-bit numbers: the products and signs by which a move is compared with a corner, as the code makes them.
 use mir.Syntax.{w128}
 use Rattle.std.proofs.Common.{◌≡◌, ◌↔◌, ℕ, ◌≤◌, ℤ, pos, negsuc, ◌+ℤ◌, ◌-ℤ◌, ◌*ℤ◌, ◌≤ℤ◌, ◌<ℤ◌, int_lt, IsTrue, int_le, true, FitsSigned, w32, w64, to_z, [], ◌∷◌, arith, ap₂, sym, subst, refl, ◌∙◌}
 use borrow.Author.Differences.{true_is_lt}

@@ -1,4 +1,5 @@
--- A quadratic is nowhere negative from 0 to 1 just where it isn't negative at 0 and at 1, and doesn't dip below 0 between.
+-- First law: the four cases of the quadratic. It is nowhere negative from 0 to 1 just where it isn't negative at 0 and at 1,
+-- and doesn't dip below 0 between.
 use Rattle.std.proofs.Common.{◌≡◌, inl, inr, ℤ, pos, neg_ℤ, ◌+ℤ◌, ◌-ℤ◌, ◌*ℤ◌, ◌≤ℤ◌, ◌<ℤ◌, [], ◌∷◌, List, arith}
 use Rattle.std.proofs.lemmas.Int.{ints, by_lt_z}
 use Rattle.integer_algebra.proofs.Ring.{ring, V, K, M, ◌⊕◌, ◌⊖◌, ◌⊗◌}

@@ -1,4 +1,4 @@
--- Which of some bounds a way meets first.
+-- First law: the first border that a ray meets. It meets one, or nears none of them.
 --
 -- The way leads from a start in a direction. A bound is at the distance `off` from the start, which isn't negative, and the
 -- direction changes that distance by `by`. After the weights m of the start and k of the direction it is m off + k by.

@@ -1,4 +1,5 @@
--- A move that passes the tests against an edge removes no point of it.
+-- First law: the choice of the direction; a meeting strictly inside is a crossing; the law. A move that passes the tests
+-- against an edge removes no point of it.
 use Rattle.std.proofs.Common.{◌≡◌, ℤ, pos, ◌+ℤ◌, ◌-ℤ◌, ◌*ℤ◌, ◌≤ℤ◌, ◌<ℤ◌, neg_ℤ, [], ◌∷◌, List, arith, refl, ap, ◌∙◌}
 use Rattle.std.proofs.lemmas.Int.{ints, by_lt_z}
 use Rattle.integer_algebra.proofs.Ring.{ring, Term, V, K, M, ◌⊕◌, ◌⊖◌, ◌⊗◌}
