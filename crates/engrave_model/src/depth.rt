@@ -1,5 +1,7 @@
-// How deep the bit may go at a grid point, by the definition: depth after depth, edge after edge.
+// How deep a height is; and how deep the bit may go at a grid point, by the definition: depth after depth, edge after edge.
 ghost use Rattle.std.specs.Prelude.{◌≡◌, ◌↔◌, ◌*◌, ◌≤◌, All, IsTrue};
+ghost use Rattle.plane_exact.specs.Heights.{IsHeight};
+ghost use Rattle.engrave_model.specs.Clear.{depth_of};
 ghost use Rattle.engrave_model.specs.Depth.{IsDiscClear, IsEdgeClear, IsGreatestDepth};
 
 use crate::inside::is_inside;
@@ -9,6 +11,15 @@ use plane_exact::point::{Point, Seg};
 
 /// The greatest depth that any limit allows, in grid units.
 pub const MOST_DEPTH: u32 = 32_767;
+
+/// How deep the height is below the surface, in grid units: 0 from the surface up.
+pub fn depth_of_height(h: i32) -> u32
+    requires { IsHeight h }
+    ensures value { result ≡ depth_of h }
+    ensures range { result ≤ MOST_DEPTH }
+{
+    if h < 0 { h.unsigned_abs() } else { 0 }
+}
 
 /// Whether the open disc that the bit cuts over `p` at the depth `z` holds no point of the edge.
 pub fn is_edge_clear(e: Seg, p: Point, bit: &Bit, z: u32) -> bool

@@ -8,6 +8,7 @@ ghost use Rattle.gouge_checker.specs.Verdict.{IsVerdict, IsVerdictOfMove};
 
 use depth_rule::met::{Met, first_met, is_deep};
 use depth_rule::scene::Scene;
+use engrave_model::depth::depth_of_height;
 use plane_exact::bit::Bit;
 use plane_exact::moves::{LineMove, Move};
 use plane_exact::point::Point;
@@ -81,8 +82,7 @@ fn is_too_wide(bit: &Bit, h: i32) -> bool
     requires { IsHeight h }
     ensures { IsTrue result ↔ IsTooWide bit.now (depth_of h) }
 {
-    let depth = if h < 0 { h.unsigned_abs() } else { 0 };
-    bit.sd() * bit.rmax() < bit.sn() * depth
+    bit.sd() * bit.rmax() < bit.sn() * depth_of_height(h)
 }
 
 /// Whether the move passes through the surface sideways.

@@ -2,6 +2,7 @@
 ghost use Rattle.std.specs.Prelude.{◌≡◌, ◌≤◌, pos, negsuc, ◌-ℤ◌, ◌≤ℤ◌};
 ghost use Rattle.engrave_model.specs.Clear.{depth_of};
 
+use engrave_model::depth::depth_of_height;
 use plane_exact::moves::{Move, Place};
 use plane_exact::point::Point;
 
@@ -17,7 +18,7 @@ pub fn depth(place: &Place) -> u32
     ensures value { result ≡ depth_of place.now.h }
     ensures range { result ≤ 32767 }
 {
-    if place.h < 0 { (-place.h) as u32 } else { 0 }
+    depth_of_height(place.h)
 }
 
 // The same as a signed number.
