@@ -15,11 +15,11 @@ use swept_move::clear::clear_of;
 /// What a move meets.
 #[derive(Clone, Copy, Debug, PartialEq, Eq)]
 pub enum Met {
-    /// The edge of this number is the first against which one of the three tests fails.
+    /// The edge of this number, from 0, is the first against which one of the three tests fails.
     Edge(u32),
     /// The first end below the surface isn't inside.
     Outside,
-    /// The move is clear of the drawing's outside.
+    /// No test fails, and the first end below the surface, if there is one, is inside.
     Nothing,
 }
 

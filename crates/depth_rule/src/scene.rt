@@ -1,4 +1,4 @@
-// The scene of a drawing.
+// A drawing made ready to be asked: which points it holds, and its edges by number.
 use evenodd_region::rows::{Rows, inside, inside_ratio};
 use loops_text::drawing::Drawing;
 use plane_exact::point::Point;

@@ -13,7 +13,7 @@ use plane_exact::bit::Bit;
 use plane_exact::moves::{LineMove, Move};
 use plane_exact::point::Point;
 
-/// What `check` says of code.
+/// What `check` says of code: `line` counts from 1, `edge` from 0.
 #[derive(Clone, Copy, Debug, PartialEq, Eq)]
 pub enum Verdict {
     /// Every move is clear.

@@ -1,4 +1,4 @@
-// Verdicts on code: the first move that isn't clear of the drawing's outside.
+// Verdicts on code: that every move is clear, or what is wrong with the first that isn't.
 #![tactic(auto)]
 
 pub mod check;
