@@ -1,4 +1,5 @@
--- The whole-number tests of a move's two ends by which a move is called clear.
+-- When a move is called clear: not too deep, not slant, three whole-number tests against each edge, and its first end below
+-- the surface inside.
 use Rattle.std.specs.Prelude.{◌≢◌, ℕ, suc, ◌*◌, ◌<◌, ◌⊎◌, ℤ, pos, negsuc, ◌+ℤ◌, ◌-ℤ◌, ◌*ℤ◌, ◌≤ℤ◌, ◌<ℤ◌, List, All, if◌then◌else◌, nat_lt}
 use Rattle.plane_exact.specs.Cone.{Cone}
 use Rattle.plane_exact.specs.Distance.{square}
