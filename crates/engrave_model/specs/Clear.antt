@@ -55,12 +55,12 @@ corner_margin cone mv u =
     let qx = mv.to.at.x -ℤ mv.from.at.x in
     let qy = mv.to.at.y -ℤ mv.from.at.y in
     let z = pos (depth_of mv.from.h) in
-    let sinks = pos (depth_of mv.to.h) -ℤ z in
+    let descent = pos (depth_of mv.to.h) -ℤ z in
     let sd = square (pos cone.sd) in
     let sn = square (pos cone.sn) in
     record {
-      a = sd *ℤ dot qx qy qx qy -ℤ sn *ℤ square sinks;
-      b = pos 2 *ℤ (sd *ℤ dot ex ey qx qy -ℤ sn *ℤ (z *ℤ sinks));
+      a = sd *ℤ dot qx qy qx qy -ℤ sn *ℤ square descent;
+      b = pos 2 *ℤ (sd *ℤ dot ex ey qx qy -ℤ sn *ℤ (z *ℤ descent));
       c = sd *ℤ dot ex ey ex ey -ℤ sn *ℤ square z;
     }
 

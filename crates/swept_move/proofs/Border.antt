@@ -15,24 +15,24 @@ use Rattle.swept_move.proofs.Hits.{IsNear, deep}
 
 -- ---- an end of the edge: N^2 times the corner's margin is how much farther than the radius it is
 
-pub margin_value : (Q R ux uy qx qy z sinks S N : ℤ)
-    → value_at (Q *ℤ (qx *ℤ qx +ℤ qy *ℤ qy) -ℤ R *ℤ (sinks *ℤ sinks)) (pos 2 *ℤ (Q *ℤ (ux *ℤ qx +ℤ uy *ℤ qy) -ℤ R *ℤ (z *ℤ sinks))) (Q *ℤ (ux *ℤ ux +ℤ uy *ℤ uy) -ℤ R *ℤ (z *ℤ z)) S N
-    ≡ Q *ℤ ((N *ℤ ux +ℤ S *ℤ qx) *ℤ (N *ℤ ux +ℤ S *ℤ qx) +ℤ (N *ℤ uy +ℤ S *ℤ qy) *ℤ (N *ℤ uy +ℤ S *ℤ qy)) -ℤ R *ℤ ((N *ℤ z +ℤ S *ℤ sinks) *ℤ (N *ℤ z +ℤ S *ℤ sinks))
-margin_value Q R ux uy qx qy z sinks S N =
+pub margin_value : (Q R ux uy qx qy z descent S N : ℤ)
+    → value_at (Q *ℤ (qx *ℤ qx +ℤ qy *ℤ qy) -ℤ R *ℤ (descent *ℤ descent)) (pos 2 *ℤ (Q *ℤ (ux *ℤ qx +ℤ uy *ℤ qy) -ℤ R *ℤ (z *ℤ descent))) (Q *ℤ (ux *ℤ ux +ℤ uy *ℤ uy) -ℤ R *ℤ (z *ℤ z)) S N
+    ≡ Q *ℤ ((N *ℤ ux +ℤ S *ℤ qx) *ℤ (N *ℤ ux +ℤ S *ℤ qx) +ℤ (N *ℤ uy +ℤ S *ℤ qy) *ℤ (N *ℤ uy +ℤ S *ℤ qy)) -ℤ R *ℤ ((N *ℤ z +ℤ S *ℤ descent) *ℤ (N *ℤ z +ℤ S *ℤ descent))
+margin_value Q R ux uy qx qy z descent S N =
     let x = V 9 ⊗ V 2 ⊕ V 8 ⊗ V 4 in
     let y = V 9 ⊗ V 3 ⊕ V 8 ⊗ V 5 in
     let depth = V 9 ⊗ V 6 ⊕ V 8 ⊗ V 7 in
-    ring (Q ∷ R ∷ ux ∷ uy ∷ qx ∷ qy ∷ z ∷ sinks ∷ S ∷ N ∷ [])
+    ring (Q ∷ R ∷ ux ∷ uy ∷ qx ∷ qy ∷ z ∷ descent ∷ S ∷ N ∷ [])
     ((V 0 ⊗ (V 4 ⊗ V 4 ⊕ V 5 ⊗ V 5) ⊖ V 1 ⊗ (V 7 ⊗ V 7)) ⊗ (V 8 ⊗ V 8)
     ⊕ (K (pos 2) ⊗ (V 0 ⊗ (V 2 ⊗ V 4 ⊕ V 3 ⊗ V 5) ⊖ V 1 ⊗ (V 6 ⊗ V 7))) ⊗ (V 8 ⊗ V 9)
     ⊕ (V 0 ⊗ (V 2 ⊗ V 2 ⊕ V 3 ⊗ V 3) ⊖ V 1 ⊗ (V 6 ⊗ V 6)) ⊗ (V 9 ⊗ V 9))
     (V 0 ⊗ (x ⊗ x ⊕ y ⊗ y) ⊖ V 1 ⊗ (depth ⊗ depth)) tt
 
-corner_off : (Q R ux uy qx qy z sinks S N X Y : ℤ)
-    → pos 0 ≤ℤ value_at (Q *ℤ (qx *ℤ qx +ℤ qy *ℤ qy) -ℤ R *ℤ (sinks *ℤ sinks)) (pos 2 *ℤ (Q *ℤ (ux *ℤ qx +ℤ uy *ℤ qy) -ℤ R *ℤ (z *ℤ sinks))) (Q *ℤ (ux *ℤ ux +ℤ uy *ℤ uy) -ℤ R *ℤ (z *ℤ z)) S N
-    → X ≡ N *ℤ ux +ℤ S *ℤ qx → Y ≡ N *ℤ uy +ℤ S *ℤ qy → ¬ IsNear Q R X Y (deep z sinks S N)
-corner_off Q R ux uy qx qy z sinks S N X Y margin ex ey near =
-    let value = margin_value Q R ux uy qx qy z sinks S N in
+corner_off : (Q R ux uy qx qy z descent S N X Y : ℤ)
+    → pos 0 ≤ℤ value_at (Q *ℤ (qx *ℤ qx +ℤ qy *ℤ qy) -ℤ R *ℤ (descent *ℤ descent)) (pos 2 *ℤ (Q *ℤ (ux *ℤ qx +ℤ uy *ℤ qy) -ℤ R *ℤ (z *ℤ descent))) (Q *ℤ (ux *ℤ ux +ℤ uy *ℤ uy) -ℤ R *ℤ (z *ℤ z)) S N
+    → X ≡ N *ℤ ux +ℤ S *ℤ qx → Y ≡ N *ℤ uy +ℤ S *ℤ qy → ¬ IsNear Q R X Y (deep z descent S N)
+corner_off Q R ux uy qx qy z descent S N X Y margin ex ey near =
+    let value = margin_value Q R ux uy qx qy z descent S N in
     let far : Q *ℤ (X *ℤ X +ℤ Y *ℤ Y) ≡ Q *ℤ ((N *ℤ ux +ℤ S *ℤ qx) *ℤ (N *ℤ ux +ℤ S *ℤ qx) +ℤ (N *ℤ uy +ℤ S *ℤ qy) *ℤ (N *ℤ uy +ℤ S *ℤ qy)) = ap₂ (λ x y. Q *ℤ (x *ℤ x +ℤ y *ℤ y)) ex ey in
     let close = near.close in
     omega (arith, ints)

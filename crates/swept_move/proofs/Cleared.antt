@@ -145,10 +145,10 @@ module _ (cone : Cone) (mv : Move) (e : Seg) (narrow : ¬ IsTooDeep cone mv) (so
   off : KeepsAway → (S T N : ℤ) → IsPlace S T N → (
       let x = away p.ex p.qx p.dx S T N in
       let y = away p.ey p.qy p.dy S T N in
-      let depth = deep p.z p.sinks S N in
+      let depth = deep p.z p.descent S N in
       (p.R *ℤ (depth *ℤ depth)) ≤ℤ (p.Q *ℤ (x *ℤ x +ℤ y *ℤ y)))
   off kept S T N place =
-      far_by (pos cone.sn) (pos cone.sd) (N *ℤ pos cone.rmax) _ _ (deep p.z p.sinks S N) (let h : pos 0 ≤ℤ pos cone.sn = omega (arith, ints) in h)
+      far_by (pos cone.sn) (pos cone.sd) (N *ℤ pos cone.rmax) _ _ (deep p.z p.descent S N) (let h : pos 0 ≤ℤ pos cone.sn = omega (arith, ints) in h)
       (deep_nonneg (pos (depth_of mv.from.h)) (pos (depth_of mv.to.h)) S N (omega (arith, ints)) (omega (arith, ints)) place.start place.finish)
       (reaches (pos cone.sn) (pos cone.sd) (pos cone.rmax) (pos (depth_of mv.from.h)) (pos (depth_of mv.to.h)) S N narrow_start narrow_finish place.start place.finish)
       (kept S T N place)

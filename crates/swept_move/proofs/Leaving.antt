@@ -61,7 +61,7 @@ module _ (p : Pass) (guarded : IsGuarded p) where
 module _ (p : Pass) (guarded : IsGuarded p) (q : pos 0 ≤ℤ p.Q) (r : pos 0 ≤ℤ p.R) (S T N : ℤ) (at : IsPlace S T N) (hit : IsHit p S T N) where
   module _ (s t n : ℤ) (level_x : away p.ex p.qx p.dx s t n ≡ pos 0) (level_y : away p.ey p.qy p.dy s t n ≡ pos 0) where
     -- the border is reached at a hit
-    no_exit : pos 0 ≤ℤ deep p.z p.sinks s n → ¬ Exit (sides S T N s t n)
+    no_exit : pos 0 ≤ℤ deep p.z p.descent s n → ¬ Exit (sides S T N s t n)
     no_exit sinks exit =
         let m = exit.m in
         let k = exit.k in
@@ -75,7 +75,7 @@ module _ (p : Pass) (guarded : IsGuarded p) (q : pos 0 ≤ℤ p.Q) (r : pos 0 �
         let a : pos 0 ≤ℤ mix m k T t = within.1.1.0 in
         let rest : pos 0 ≤ℤ mix m k (N -ℤ T) (n -ℤ t) = within.1.1.1.0 in
         let b : mix m k T t ≤ℤ mix m k N n = omega (arith, ints) in
-        let some = some_over p.z p.sinks (mix m k S s) (mix m k N n) start finish there.below in
+        let some = some_over p.z p.descent (mix m k S s) (mix m k N n) start finish there.below in
         let place : IsPlace (mix m k S s) (mix m k T t) (mix m k N n) = record { start = start; finish = finish; a = a; b = b; some = some } in
         elim exit.meets [
           | inl e ↦ not_at_start p guarded _ _ _ e place there
@@ -97,7 +97,7 @@ module _ (p : Pass) (guarded : IsGuarded p) (q : pos 0 ≤ℤ p.Q) (r : pos 0 �
         (at.start, (omega (arith, ints), (at.a, (omega (arith, ints), tt))))
 
     -- a direction that nears no side is a hit within the square, at which the way is none
-    no_meeting : ((s *ℤ (s -ℤ n)) <ℤ pos 0 → (t *ℤ (t -ℤ n)) <ℤ pos 0 → ⊥) → pos 0 <ℤ deep p.z p.sinks s n → ¬ NearsNone (sides S T N s t n)
+    no_meeting : ((s *ℤ (s -ℤ n)) <ℤ pos 0 → (t *ℤ (t -ℤ n)) <ℤ pos 0 → ⊥) → pos 0 <ℤ deep p.z p.descent s n → ¬ NearsNone (sides S T N s t n)
     no_meeting apart sinks nears =
         let start : pos 0 ≤ℤ s = nears.0 in
         let left : pos 0 ≤ℤ (n -ℤ s) = nears.1.0 in
@@ -106,7 +106,7 @@ module _ (p : Pass) (guarded : IsGuarded p) (q : pos 0 ≤ℤ p.Q) (r : pos 0 �
         let rest : pos 0 ≤ℤ (n -ℤ t) = nears.1.1.1.0 in
         let b : t ≤ℤ n = omega (arith, ints) in
         let there : IsHit p s t n = near_zero p.Q p.R _ _ _ _ _ _ q level_x level_y sinks hit in
-        let place : IsPlace s t n = record { start = start; finish = finish; a = a; b = b; some = some_over p.z p.sinks s n start finish sinks } in
+        let place : IsPlace s t n = record { start = start; finish = finish; a = a; b = b; some = some_over p.z p.descent s n start finish sinks } in
         by_lt_z (pos 0) s
         (λ after. by_lt_z s n
         (λ before. by_lt_z (pos 0) t
@@ -118,15 +118,15 @@ module _ (p : Pass) (guarded : IsGuarded p) (q : pos 0 ≤ℤ p.Q) (r : pos 0 �
         (λ l. not_at_start p guarded s t n (omega (arith, ints)) place there)
 
     -- in a direction in which the depth grows
-    no_descent : ((s *ℤ (s -ℤ n)) <ℤ pos 0 → (t *ℤ (t -ℤ n)) <ℤ pos 0 → ⊥) → ¬ (pos 0 <ℤ deep p.z p.sinks s n)
+    no_descent : ((s *ℤ (s -ℤ n)) <ℤ pos 0 → (t *ℤ (t -ℤ n)) <ℤ pos 0 → ⊥) → ¬ (pos 0 <ℤ deep p.z p.descent s n)
     no_descent apart sinks =
         elim (leave (sides S T N s t n) starts_within) [
           | inl nears ↦ no_meeting apart sinks nears
-          | inr exit ↦ no_exit (let least : pos 0 ≤ℤ deep p.z p.sinks s n = omega (arith, ints) in least) exit
+          | inr exit ↦ no_exit (let least : pos 0 ≤ℤ deep p.z p.descent s n = omega (arith, ints) in least) exit
         ]
 
     -- in a direction in which the depth stays, and which isn't a place
-    no_glide : deep p.z p.sinks s n ≡ pos 0 → n ≤ℤ pos 0 → (s ≡ pos 0 → t ≡ pos 0 → n ≡ pos 0 → ⊥) → ⊥
+    no_glide : deep p.z p.descent s n ≡ pos 0 → n ≤ℤ pos 0 → (s ≡ pos 0 → t ≡ pos 0 → n ≡ pos 0 → ⊥) → ⊥
     no_glide flat none some =
         elim (leave (sides S T N s t n) starts_within) [
           | inl nears ↦
@@ -135,11 +135,11 @@ module _ (p : Pass) (guarded : IsGuarded p) (q : pos 0 ≤ℤ p.Q) (r : pos 0 �
               let a : pos 0 ≤ℤ t = nears.1.1.0 in
               let rest : pos 0 ≤ℤ (n -ℤ t) = nears.1.1.1.0 in
               some (omega (arith, ints)) (omega (arith, ints)) (omega (arith, ints)))
-          | inr exit ↦ no_exit (let least : pos 0 ≤ℤ deep p.z p.sinks s n = omega (arith, ints) in least) exit
+          | inr exit ↦ no_exit (let least : pos 0 ≤ℤ deep p.z p.descent s n = omega (arith, ints) in least) exit
         ]
 
-  turned_deep : (s n : ℤ) → deep p.z p.sinks (neg_ℤ s) (neg_ℤ n) ≡ neg_ℤ (deep p.z p.sinks s n)
-  turned_deep s n = ring (p.z ∷ p.sinks ∷ s ∷ n ∷ []) (M (V 3) ⊗ V 0 ⊕ M (V 2) ⊗ V 1) (M (V 3 ⊗ V 0 ⊕ V 2 ⊗ V 1)) tt
+  turned_deep : (s n : ℤ) → deep p.z p.descent (neg_ℤ s) (neg_ℤ n) ≡ neg_ℤ (deep p.z p.descent s n)
+  turned_deep s n = ring (p.z ∷ p.descent ∷ s ∷ n ∷ []) (M (V 3) ⊗ V 0 ⊕ M (V 2) ⊗ V 1) (M (V 3 ⊗ V 0 ⊕ V 2 ⊗ V 1)) tt
 
   -- along any level direction that isn't none, and in which path and edge don't cross
   pub no_hit : (s t n : ℤ) → away p.ex p.qx p.dx s t n ≡ pos 0 → away p.ey p.qy p.dy s t n ≡ pos 0
@@ -150,7 +150,7 @@ module _ (p : Pass) (guarded : IsGuarded p) (q : pos 0 ≤ℤ p.Q) (r : pos 0 �
       let back_deep = turned_deep s n in
       let back_s = turned_product s n in
       let back_t = turned_product t n in
-      by_sign (deep p.z p.sinks s n)
+      by_sign (deep p.z p.descent s n)
       (λ rises. no_descent (neg_ℤ s) (neg_ℤ t) (neg_ℤ n) back_x back_y
       (λ h k. apart (omega (arith, ints)) (omega (arith, ints))) (omega (arith, ints)))
       (λ flat. by_lt_z (pos 0) n

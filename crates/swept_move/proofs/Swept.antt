@@ -27,7 +27,7 @@ pass_of cone mv e = record {
   dx = e.b.x -ℤ e.a.x;
   dy = e.b.y -ℤ e.a.y;
   z = pos (depth_of mv.from.h);
-  sinks = pos (depth_of mv.to.h) -ℤ pos (depth_of mv.from.h);
+  descent = pos (depth_of mv.to.h) -ℤ pos (depth_of mv.from.h);
 }
 
 -- ---- the way at the borders, in one coordinate, where the path goes from f to g and the edge from a to b
