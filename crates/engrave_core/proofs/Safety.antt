@@ -86,23 +86,23 @@ called_clear_is_safe bit loops moves text checked =
 checked_safe : (files : List ℕ → Option (List ℕ)) (drawing : List ℕ) (units : Units) (code : List ℕ) (bit : Cone) (text : List ℕ)
     → IsDueOfCheck files drawing units code bit Done text → HoldSafeCode files drawing code units bit
 checked_safe files drawing units code bit text given =
-    let shape = found _ (held_drawing files drawing) text (held_drawing-done files drawing) given in
-    let moves = found _ (held_code files units code) text (held_code-done files units code) shape.gives in
+    let loops = found _ (held_drawing files drawing) text (held_drawing-done files drawing) given in
+    let moves = found _ (held_code files units code) text (held_code-done files units code) loops.gives in
     record {
-      loops = shape.value;
+      loops = loops.value;
       moves = moves.value;
-      drawing_is = shape.is;
+      drawing_is = loops.is;
       code_is = moves.is;
-      safe = called_clear_is_safe bit shape.value moves.value text moves.gives;
+      safe = called_clear_is_safe bit loops.value moves.value text moves.gives;
     }
 
 pub done_is_safe : (files : List ℕ → Option (List ℕ)) (request : Option Request) (text : List ℕ)
     → IsDueOfRequest files request Done text → IsSafeRun files request
 done_is_safe files None text due = tt
-done_is_safe files (Some (Probe shape at bit rmax limit)) text due = tt
+done_is_safe files (Some (Probe drawing at bit rmax limit)) text due = tt
 done_is_safe files (Some (Moves code units)) text due = tt
-done_is_safe files (Some (Check shape code bit rmax)) text due =
-    checked_safe files shape.drawing shape.units code (cone_of bit rmax) text due
+done_is_safe files (Some (Check drawing code bit rmax)) text due =
+    checked_safe files drawing.file drawing.units code (cone_of bit rmax) text due
 
 -- where the whole reply was written as Done, or the output failed
 pub written_is_safe : (files : List ℕ → Option (List ℕ)) (request : Option Request) (text : List ℕ) (outcome result : Outcome)

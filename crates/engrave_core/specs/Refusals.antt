@@ -44,9 +44,9 @@ IsRefusalOfHeldCode outcome = IsRefusalOfFile Code outcome ⊎ IsRefusalOfCode o
 
 -- of words that are taken
 abbrev pub IsRefusalOfRequest : Request → Outcome → Type 0
-IsRefusalOfRequest (Probe shape at bit rmax limit) outcome = IsRefusalOfHeldDrawing outcome
+IsRefusalOfRequest (Probe drawing at bit rmax limit) outcome = IsRefusalOfHeldDrawing outcome
 IsRefusalOfRequest (Moves code units) outcome = IsRefusalOfHeldCode outcome
-IsRefusalOfRequest (Check shape code bit rmax) outcome =
+IsRefusalOfRequest (Check drawing code bit rmax) outcome =
     IsRefusalOfHeldDrawing outcome ⊎ (IsRefusalOfHeldCode outcome ⊎ IsRefusalOfMoves outcome)
 
 -- of words: the request that they make, if they are taken

@@ -15,7 +15,7 @@ use depth_rule::depth::greatest_depth;
 use depth_rule::scene::Scene;
 use gouge_checker::check::{Verdict, check as judge_code};
 use grid_num::units::Units;
-use job_words::request::{DrawingWords, Request};
+use job_words::request::{DrawingOptions, Request};
 use job_words::words::{WordsFault, read_words};
 use loops_text::drawing::Drawing;
 use plane_exact::bit::Bit;
@@ -54,14 +54,14 @@ fn run<D: Depot>(alloc: Global, request: &Request, depot: &mut D) -> Result<Stri
 {
     match request {
         Request::Probe {
-            shape,
+            drawing,
             at,
             bit,
             rmax,
             limit,
         } => probe(
             alloc,
-            shape.drawing.as_str(),
+            drawing.file.as_str(),
             *at,
             *bit,
             *rmax,
@@ -70,11 +70,11 @@ fn run<D: Depot>(alloc: Global, request: &Request, depot: &mut D) -> Result<Stri
         ),
         Request::Moves { code, units } => moves(alloc, code.as_str(), *units, depot),
         Request::Check {
-            shape,
+            drawing,
             code,
             bit,
             rmax,
-        } => check(alloc, shape, code.as_str(), *bit, *rmax, depot),
+        } => check(alloc, drawing, code.as_str(), *bit, *rmax, depot),
     }
 }
 
@@ -145,7 +145,7 @@ fn moves<D: Depot>(
 /// `check`: the verdict on a code, over a drawing.
 fn check<D: Depot>(
     alloc: Global,
-    shape: &DrawingWords,
+    options: &DrawingOptions,
     code: &str,
     bit: (u32, u32),
     rmax: u32,
@@ -153,14 +153,14 @@ fn check<D: Depot>(
 ) -> Result<String, Outcome>
     requires { IsCone bit.0 bit.1 rmax }
     ensures told { IfSome (D.held depot.old) (λ files. MatchResult result
-        (λ text. IsDueOfCheck files shape.now.drawing shape.now.units code.now (cone_of bit rmax) Outcome.Done (string_bytes text))
-        (λ refusal. IfAnswered refusal (IsDueOfCheck files shape.now.drawing shape.now.units code.now (cone_of bit rmax) refusal (line_of refusal)))) }
+        (λ text. IsDueOfCheck files options.now.file options.now.units code.now (cone_of bit rmax) Outcome.Done (string_bytes text))
+        (λ refusal. IfAnswered refusal (IsDueOfCheck files options.now.file options.now.units code.now (cone_of bit rmax) refusal (line_of refusal)))) }
     ensures refusal { IfErr result (λ refusal. IsRefusalOfHeldDrawing refusal ⊎ (IsRefusalOfHeldCode refusal ⊎ IsRefusalOfMoves refusal)) }
     ensures caused { IfErr result (IsCaused (D.faults depot.old) (D.faults depot.new) (D.misses depot.old) (D.misses depot.new)) }
     ensures held { D.held depot.new ≡ D.held depot.old }
 {
-    let drawing = load_drawing(alloc, shape.drawing.as_str(), depot)?;
-    match load_code(alloc, code, shape.units, depot) {
+    let drawing = load_drawing(alloc, options.file.as_str(), depot)?;
+    match load_code(alloc, code, options.units, depot) {
         Ok(moves) => {
             let bit = Bit::new(bit.0, bit.1, rmax).unwrap();
             check_moves(alloc, drawing, &bit, &moves)

@@ -9,11 +9,11 @@ use Rattle.grid_num.specs.declared.units.Units.{Units}
 use Rattle.plane_exact.specs.Plane.{GridPoint}
 use Rattle.job_words.specs.Commands.{options_of}
 use Rattle.job_words.specs.Plain.{GivenOption, IsGiven, IsTakenInForm, given_value, is_in_form}
-use Rattle.job_words.specs.Request.{check_by, check_of, moves_by, moves_of, probe_by, probe_of, shape_by, shape_of, values_request}
+use Rattle.job_words.specs.Request.{check_by, check_of, drawing_options_by, drawing_options_of, moves_by, moves_of, probe_by, probe_of, values_request}
 use Rattle.job_words.specs.Values.{bit_of, form_named, number_of, or_default, point_of, rmax_of, slope_of, units_named, units_of}
 use Rattle.job_words.specs.declared.commands.CommandWord.{CommandWord}
 use Rattle.job_words.specs.declared.commands.CommandWord.TheVariants.{Probe, Moves, Check}
-use Rattle.job_words.specs.declared.request.DrawingWords.{DrawingWords}
+use Rattle.job_words.specs.declared.request.DrawingOptions.{DrawingOptions}
 use Rattle.job_words.specs.declared.request.FormWord.{FormWord}
 use Rattle.job_words.proofs.Requests.{request_of-given}
 
@@ -25,20 +25,20 @@ none_is_not e = absurd (true≢false (sym e))
 
 -- ---- requests, by their parts
 
-shape_some : (form : Option FormWord) (units : Option Units) (drawing : Option (List ℕ)) → Is form → Is units
-    → Is drawing → Is (shape_by form units drawing)
-shape_some (Some form) (Some units) (Some drawing) f u d = refl
-shape_some None units drawing f u d = none_is_not f
-shape_some (Some form) None drawing f u d = none_is_not u
-shape_some (Some form) (Some units) None f u d = none_is_not d
+drawing_options_some : (form : Option FormWord) (units : Option Units) (file : Option (List ℕ)) → Is form → Is units
+    → Is file → Is (drawing_options_by form units file)
+drawing_options_some (Some form) (Some units) (Some file) f u d = refl
+drawing_options_some None units file f u d = none_is_not f
+drawing_options_some (Some form) None file f u d = none_is_not u
+drawing_options_some (Some form) (Some units) None f u d = none_is_not d
 
-probe_some : (at : Option GridPoint) (bit : Option (ℕ × ℕ)) (rmax limit : Option ℕ) (shape : Option DrawingWords)
-    → Is at → Is bit → Is rmax → Is limit → Is shape → Is (probe_by at bit rmax limit shape)
-probe_some (Some at) (Some bit) (Some rmax) (Some limit) (Some shape) a b r l s = refl
-probe_some None bit rmax limit shape a b r l s = none_is_not a
-probe_some (Some at) None rmax limit shape a b r l s = none_is_not b
-probe_some (Some at) (Some bit) None limit shape a b r l s = none_is_not r
-probe_some (Some at) (Some bit) (Some rmax) None shape a b r l s = none_is_not l
+probe_some : (at : Option GridPoint) (bit : Option (ℕ × ℕ)) (rmax limit : Option ℕ) (drawing : Option DrawingOptions)
+    → Is at → Is bit → Is rmax → Is limit → Is drawing → Is (probe_by at bit rmax limit drawing)
+probe_some (Some at) (Some bit) (Some rmax) (Some limit) (Some drawing) a b r l s = refl
+probe_some None bit rmax limit drawing a b r l s = none_is_not a
+probe_some (Some at) None rmax limit drawing a b r l s = none_is_not b
+probe_some (Some at) (Some bit) None limit drawing a b r l s = none_is_not r
+probe_some (Some at) (Some bit) (Some rmax) None drawing a b r l s = none_is_not l
 probe_some (Some at) (Some bit) (Some rmax) (Some limit) None a b r l s = none_is_not s
 
 moves_some : (units : Option Units) (code : Option (List ℕ)) → Is units → Is code → Is (moves_by units code)
@@ -46,13 +46,13 @@ moves_some (Some units) (Some code) u c = refl
 moves_some None code u c = none_is_not u
 moves_some (Some units) None u c = none_is_not c
 
-check_some : (bit : Option (ℕ × ℕ)) (rmax : Option ℕ) (shape : Option DrawingWords) (code : Option (List ℕ))
-    → Is bit → Is rmax → Is shape → Is code → Is (check_by bit rmax shape code)
-check_some (Some bit) (Some rmax) (Some shape) (Some code) b r s c = refl
-check_some None rmax shape code b r s c = none_is_not b
-check_some (Some bit) None shape code b r s c = none_is_not r
+check_some : (bit : Option (ℕ × ℕ)) (rmax : Option ℕ) (drawing : Option DrawingOptions) (code : Option (List ℕ))
+    → Is bit → Is rmax → Is drawing → Is code → Is (check_by bit rmax drawing code)
+check_some (Some bit) (Some rmax) (Some drawing) (Some code) b r s c = refl
+check_some None rmax drawing code b r s c = none_is_not b
+check_some (Some bit) None drawing code b r s c = none_is_not r
 check_some (Some bit) (Some rmax) None code b r s c = none_is_not s
-check_some (Some bit) (Some rmax) (Some shape) None b r s c = none_is_not c
+check_some (Some bit) (Some rmax) (Some drawing) None b r s c = none_is_not c
 
 -- ---- values, by their forms
 
@@ -97,10 +97,10 @@ module _ (given : List GivenOption) (in_form : list_all is_in_form given ≡ tru
   units_some : Is (units_of (value (codes "units")))
   units_some = default_some _ units_named (value (codes "units")) (fits given in_form (codes "units"))
 
-  drawing_some : Is (value (codes "drawing")) → Is (shape_of value)
-  unfolding shape_of
+  drawing_some : Is (value (codes "drawing")) → Is (drawing_options_of value)
+  unfolding drawing_options_of
   drawing_some there =
-      shape_some _ _ _ (default_some _ form_named (value (codes "form")) (fits given in_form (codes "form"))) units_some there
+      drawing_options_some _ _ _ (default_some _ form_named (value (codes "form")) (fits given in_form (codes "form"))) units_some there
 
   pub request_some : (command : CommandWord) → IsGiven (options_of command) given → Is (values_request command value)
   unfolding options_of values_request probe_of moves_of check_of
