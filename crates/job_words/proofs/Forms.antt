@@ -9,7 +9,7 @@ use Rattle.grid_num.specs.declared.units.Units.{Units}
 use Rattle.plane_exact.specs.Plane.{GridPoint}
 use Rattle.job_words.specs.Commands.{options_of}
 use Rattle.job_words.specs.Plain.{GivenOption, IsGiven, IsTakenInForm, given_value, is_in_form}
-use Rattle.job_words.specs.Request.{check_by, check_of, drawing_options_by, drawing_options_of, moves_by, moves_of, probe_by, probe_of, values_request}
+use Rattle.job_words.specs.Request.{check_by, check_request, drawing_options_by, drawing_options_of, moves_by, moves_request, probe_by, probe_request, values_request}
 use Rattle.job_words.specs.Values.{bit_of, form_named, number_of, or_default, point_of, rmax_of, slope_of, units_named, units_of}
 use Rattle.job_words.specs.declared.commands.CommandWord.{CommandWord}
 use Rattle.job_words.specs.declared.commands.CommandWord.TheVariants.{Probe, Moves, Check}
@@ -103,7 +103,7 @@ module _ (given : List GivenOption) (in_form : list_all is_in_form given ≡ tru
       drawing_options_some _ _ _ (default_some _ form_named (value (codes "form")) (fits given in_form (codes "form"))) units_some there
 
   pub request_some : (command : CommandWord) → IsGiven (options_of command) given → Is (values_request command value)
-  unfolding options_of values_request probe_of moves_of check_of
+  unfolding options_of values_request probe_request moves_request check_request
   request_some Probe are =
       let at = both (is_some (value (codes "at"))) _ are.needed in
       let bit = both (is_some (value (codes "bit"))) _ at.1 in

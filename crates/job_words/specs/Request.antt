@@ -27,8 +27,8 @@ probe_by (Some at) (Some bit) (Some rmax) (Some limit) (Some drawing) = Some (Pr
 probe_by _ _ _ _ _ = None
 
 -- the values of `probe`
-unfoldable pub probe_of : (List ℕ → Option (List ℕ)) → Option Request
-probe_of value =
+unfoldable pub probe_request : (List ℕ → Option (List ℕ)) → Option Request
+probe_request value =
     probe_by (at_of (value (codes "at"))) (bit_of (value (codes "bit"))) (rmax_of (value (codes "rmax")))
     (limit_of (value (codes "limit"))) (drawing_options_of value)
 
@@ -37,8 +37,8 @@ moves_by (Some units) (Some code) = Some (Moves code units)
 moves_by _ _ = None
 
 -- the values of `moves`
-unfoldable pub moves_of : (List ℕ → Option (List ℕ)) → Option Request
-moves_of value = moves_by (units_of (value (codes "units"))) (value (codes "code"))
+unfoldable pub moves_request : (List ℕ → Option (List ℕ)) → Option Request
+moves_request value = moves_by (units_of (value (codes "units"))) (value (codes "code"))
 
 abbrev pub check_by : Option (ℕ × ℕ) → Option ℕ → Option DrawingOptions → Option (List ℕ)
     → Option Request
@@ -46,15 +46,15 @@ check_by (Some bit) (Some rmax) (Some drawing) (Some code) = Some (Check drawing
 check_by _ _ _ _ = None
 
 -- the values of `check`
-unfoldable pub check_of : (List ℕ → Option (List ℕ)) → Option Request
-check_of value =
+unfoldable pub check_request : (List ℕ → Option (List ℕ)) → Option Request
+check_request value =
     check_by (bit_of (value (codes "bit"))) (rmax_of (value (codes "rmax"))) (drawing_options_of value) (value (codes "code"))
 
 -- the request of a command with these values, or None where one that it needs is missing or isn't in its form and range
 unfoldable pub values_request : CommandWord → (List ℕ → Option (List ℕ)) → Option Request
-values_request command.Probe value = probe_of value
-values_request command.Moves value = moves_of value
-values_request command.Check value = check_of value
+values_request command.Probe value = probe_request value
+values_request command.Moves value = moves_request value
+values_request command.Check value = check_request value
 
 -- the same for words of which the first is the command's name, where `clap` takes them
 unfoldable pub command_request : CommandWord → List (List ℕ) → Option Request

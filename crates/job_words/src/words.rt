@@ -2,7 +2,7 @@
 ghost use Rattle.std.specs.Prelude.{◌≡◌, IfOk, Some, None, Err, map, string_bytes};
 ghost use Rattle.clap.specs.Words.{first_value, found_of};
 ghost use Rattle.job_words.specs.Request.{request_of, command_request, values_request};
-ghost use Rattle.job_words.specs.Request.{probe_of, moves_of, check_of, IsInRange};
+ghost use Rattle.job_words.specs.Request.{probe_request, moves_request, check_request, IsInRange};
 
 use crate::commands::CommandWord;
 use crate::found::{at_in, bit_in, drawing_options_in, limit_in, rmax_in, text_in, units_in};
@@ -80,12 +80,12 @@ fn read_values(
     }
 }
 
-#[tactic(auto, unfolding(crate::specs::Request::probe_of))]
+#[tactic(auto, unfolding(crate::specs::Request::probe_request))]
 fn read_probe(alloc: Global, found: &ArgMatches) -> Result<Request, WordsFault>
-    ensures taken { IfOk result (λ r. probe_of (first_value (found_of found.now)) ≡ Some r) }
+    ensures taken { IfOk result (λ r. probe_request (first_value (found_of found.now)) ≡ Some r) }
     ensures range { IfOk result IsInRange }
     ensures usage { result ≡ Err WordsFault.Usage
-        → probe_of (first_value (found_of found.now)) ≡ None }
+        → probe_request (first_value (found_of found.now)) ≡ None }
 {
     let at = at_in(found).ok_or(WordsFault::Usage)?;
     let bit = bit_in(found).ok_or(WordsFault::Usage)?;
@@ -101,24 +101,24 @@ fn read_probe(alloc: Global, found: &ArgMatches) -> Result<Request, WordsFault>
     })
 }
 
-#[tactic(auto, unfolding(crate::specs::Request::moves_of))]
+#[tactic(auto, unfolding(crate::specs::Request::moves_request))]
 fn read_moves(alloc: Global, found: &ArgMatches) -> Result<Request, WordsFault>
-    ensures taken { IfOk result (λ r. moves_of (first_value (found_of found.now)) ≡ Some r) }
+    ensures taken { IfOk result (λ r. moves_request (first_value (found_of found.now)) ≡ Some r) }
     ensures range { IfOk result IsInRange }
     ensures usage { result ≡ Err WordsFault.Usage
-        → moves_of (first_value (found_of found.now)) ≡ None }
+        → moves_request (first_value (found_of found.now)) ≡ None }
 {
     let units = units_in(found).ok_or(WordsFault::Usage)?;
     let code = text_in(alloc, found, "code")?;
     Ok(Request::Moves { code, units })
 }
 
-#[tactic(auto, unfolding(crate::specs::Request::check_of))]
+#[tactic(auto, unfolding(crate::specs::Request::check_request))]
 fn read_check(alloc: Global, found: &ArgMatches) -> Result<Request, WordsFault>
-    ensures taken { IfOk result (λ r. check_of (first_value (found_of found.now)) ≡ Some r) }
+    ensures taken { IfOk result (λ r. check_request (first_value (found_of found.now)) ≡ Some r) }
     ensures range { IfOk result IsInRange }
     ensures usage { result ≡ Err WordsFault.Usage
-        → check_of (first_value (found_of found.now)) ≡ None }
+        → check_request (first_value (found_of found.now)) ≡ None }
 {
     let bit = bit_in(found).ok_or(WordsFault::Usage)?;
     let rmax = rmax_in(found).ok_or(WordsFault::Usage)?;
