@@ -72,7 +72,7 @@ defaults_fault-options (option ∷ options) rows =
     (no_fault_either_way (has_row option.name rows)) (same_either_way rows (has_row option.name rows))
     ∙ defaults_fault-options options rows
 
--- ---- what has to stand is there
+-- ---- what is required is there
 
 met : (required there : Bool) → (not required || there) ≡ true → (required && not there) ≡ false
 met true there is = ap not is

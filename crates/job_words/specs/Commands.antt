@@ -17,7 +17,7 @@ name_of Probe = codes "probe"
 name_of Moves = codes "moves"
 name_of Check = codes "check"
 
--- an option that has to stand
+-- an option that is required
 abbrev pub needed : List ℕ → OptionRow
 needed name = record { name = name; required = true }
 

@@ -6,7 +6,7 @@ use Rattle.clap.specs.Walk.{Rule, Text, first_of, is_empty}
 use Rattle.clap.specs.declared.builder.action.ArgAction.TheVariants.{Set}
 use Rattle.job_words.specs.declared.options.CommandOption.{CommandOption}
 
--- an option: its name, and whether it has to stand among the words
+-- an option: its name, and whether it is required
 pub record OptionRow : Type 0 where
   pub name : Text
   pub required : Bool
@@ -14,7 +14,7 @@ pub record OptionRow : Type 0 where
 abbrev pub row_of : CommandOption → OptionRow
 row_of option = record { name = option.name.now; required = option.required }
 
--- `--name` with one value; to stand twice is a fault
+-- `--name` with one value; to be given twice is a fault
 abbrev pub option_rule : OptionRow → Rule
 option_rule option = record (new_rule option.name) {
   long = Some option.name;
@@ -36,6 +36,6 @@ options_app options = app_with (map option_rule options)
 unfoldable pub is_taken : List OptionRow → List Text → Bool
 is_taken options words = is_empty (fault_of (options_app options) words)
 
--- the value that `clap` finds for the option of this name, if it stands among the words
+-- the value that `clap` finds for the option of this name, if it is given
 unfoldable pub value_in : List OptionRow → List Text → Text → Option Text
 value_in options words name = first_of name (matches_of (options_app options) words)

@@ -31,11 +31,11 @@ abbrev pub is_once : List GivenOption → Bool
 is_once [] = true
 is_once (given ∷ others) = list_all (λ other. not (bytes_eq given.name other.name)) others && is_once others
 
--- a value is given for the option, if it has to stand
+-- a value is given for the option, if it is required
 abbrev pub is_met : List GivenOption → OptionRow → Bool
 is_met given option = not option.required || is_some (given_value given option.name)
 
--- names of the options, each at most once, and all that have to stand
+-- names of the options, each at most once, and all that are required
 pub record IsGiven (options : List OptionRow) (given : List GivenOption) : Type 0 where
   pub known : list_all (is_known options) given ≡ true
   pub once : is_once given ≡ true
@@ -46,7 +46,7 @@ abbrev pub IsNamed : List OptionRow → Type 0
 IsNamed options = list_all (λ option. not (has_byte 61 option.name)) options ≡ true
 
 -- for any options: words `--name=value` with names of the options, each at most once, and all that
--- have to stand, are taken, in any order and with any values, and have the values that they give
+-- are required, are taken, in any order and with any values, and have the values that they give
 pub record TakesPlainWords (options : List OptionRow) (given : List GivenOption) (command : List ℕ) : Type 0 where
   pub taken : is_taken options (command ∷ map plain_word given) ≡ true
   pub values : (name : List ℕ) → value_in options (command ∷ map plain_word given) name ≡ given_value given name

@@ -43,7 +43,7 @@ units_named text =
     else if bytes_eq text (codes "in1000") then Some In1000
     else None
 
--- ---- each option: its value, or its default where it doesn't stand
+-- ---- each option: its value, or its default where it isn't given
 
 abbrev pub or_default : {A : Type 0} → A → (List ℕ → Option A) → Option (List ℕ) → Option A
 or_default default read None = Some default

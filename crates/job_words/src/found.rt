@@ -34,7 +34,7 @@ pub fn rmax_in(found: &ArgMatches) -> Option<u32>
     read_number(found.get_str("rmax")?, 8191)
 }
 
-/// 32,767 where the option doesn't stand.
+/// 32,767 where the option isn't given.
 pub fn limit_in(found: &ArgMatches) -> Option<u32>
     ensures value { result ≡ limit_of (first_value (found_of found.now) (codes "limit")) }
     ensures range { IfSome result (IsFromOneTo 32767) }
@@ -45,7 +45,7 @@ pub fn limit_in(found: &ArgMatches) -> Option<u32>
     }
 }
 
-/// Loops where the option doesn't stand.
+/// Loops where the option isn't given.
 fn form_in(found: &ArgMatches) -> Option<FormWord>
     ensures { result ≡ form_of (first_value (found_of found.now) (codes "form")) }
 {
@@ -55,7 +55,7 @@ fn form_in(found: &ArgMatches) -> Option<FormWord>
     }
 }
 
-/// 100 grid units a millimetre where the option doesn't stand.
+/// 100 grid units a millimetre where the option isn't given.
 pub fn units_in(found: &ArgMatches) -> Option<Units>
     ensures { result ≡ units_of (first_value (found_of found.now) (codes "units")) }
 {

@@ -5,7 +5,7 @@ ghost use Rattle.job_words.specs.Plain.{GivenOption, IsGiven, IsNamed, IsRequest
 ghost use Rattle.job_words.specs.declared.commands.CommandWord.{CommandWord};
 ghost use Rattle.std.specs.Prelude.{ℕ, List};
 
-/// Words `--name=value` with names of the options, each at most once, and all that have to stand, are taken, in any
+/// Words `--name=value` with names of the options, each at most once, and all that are required, are taken, in any
 /// order and with any values, and have the values that they give. So this holds of a command that is still to come.
 pub fn plain_words_are_taken()
     ensures { (options : List OptionRow) (given : List GivenOption) (command : List ℕ)

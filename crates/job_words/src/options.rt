@@ -8,11 +8,11 @@ use clap::error::ErrorKind;
 use clap::{Arg, ArgAction, ArgMatches, Command, Error};
 use std::alloc::{AllocError, Global};
 
-/// An option of a command. It takes one value and stands at most once.
+/// An option of a command. It takes one value and is given at most once.
 #[derive(Clone, Copy, Debug)]
 pub struct CommandOption {
     pub name: &'static str,
-    /// Whether the option has to stand among the words.
+    /// Whether the option is required among the words.
     pub required: bool,
 }
 
@@ -60,7 +60,7 @@ fn command_with<'a>(alloc: Global, options: &[CommandOption]) -> Result<Command<
     Ok(command)
 }
 
-/// `--name`, with one value each time it stands.
+/// `--name`, with one value each time it is given.
 fn argument_of<'a>(alloc: Global, option: &CommandOption) -> Arg<'a>
     ensures rule { rule_of result ≡ option_rule (row_of option.now) }
     ensures local { result.global ≡ false }

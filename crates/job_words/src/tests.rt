@@ -141,7 +141,7 @@ static VALUES: [(&str, &str); 32] = [
     ("--at=5,500 --bit=1/2 --rmax=", ""),
 ];
 
-/// What may stand behind a whole probe, and the values that it has then, if it is taken.
+/// What may follow a whole probe, and the values that it has then, if it is taken.
 static MORE_WORDS: [(&str, &str); 26] = [
     ("--", "Mm100 5,500 1/2 100 32767"),
     ("-- d", ""),

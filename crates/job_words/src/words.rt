@@ -32,7 +32,7 @@ impl From<AllocError> for WordsFault {
 
 /// What the words of a command ask for: the command's name, and then its options.
 ///
-/// An option is `--name=value` or `--name value` and stands at most once; the order is free. A value that begins with
+/// An option is `--name=value` or `--name value`, at most once; the order is free. A value that begins with
 /// `-` needs the `=`, but for a lone `-`. Nothing else may stand among the words, but for `--` as the last one. Each
 /// value has to be in its form and range. A number is an optional `-` and one to nine digits.
 #[tactic(auto, unfolding(crate::specs::Request::request_of))]
