@@ -1,5 +1,5 @@
 -- What is due for the words of a command and the files that are held: the outcome, and the text that is written.
-use Rattle.std.specs.Prelude.{◌≡◌, ℕ, Option, Some, None, List, ◌++◌, length, flat_map, codes, decimal, Result, Ok, Err}
+use Rattle.std.specs.Prelude.{◌≡◌, ℕ, Option, Some, None, List, ◌++◌, length, flat_map, codes, decimal, Result, Ok, Err, String, MatchResult, string_bytes}
 use Rattle.std.specs.Fmt.{signed_decimal}
 use Rattle.gcode_text.specs.Moves.{moves_of}
 use Rattle.grid_num.specs.Judging.{and_then}
@@ -21,6 +21,7 @@ use Rattle.shop_port.specs.Loading.{file_within}
 use Rattle.shop_port.specs.declared.loading.LoadFault.{LoadFault}
 use Rattle.shop_port.specs.declared.loading.LoadFault.TheVariants as load
 use Rattle.engrave_core.specs.Line.{line_of}
+use Rattle.engrave_core.specs.Outcome.{IfAnswered}
 use Rattle.engrave_core.specs.declared.outcome.InputFault.TheVariants.{TooLong, Loops, Code as CodeOf}
 use Rattle.engrave_core.specs.declared.outcome.Outcome.{Outcome}
 use Rattle.engrave_core.specs.declared.outcome.Outcome.TheVariants.{Done, NotClear, Usage, Input, Absent, ReadFault, Memory}
@@ -66,6 +67,11 @@ held_drawing files name = and_then (bytes_of Drawing most_drawing_bytes (files n
 -- the moves that the held file of this name asks for, or the refusal
 unfoldable pub held_code : (List ℕ → Option (List ℕ)) → Units → List ℕ → Result (List LineMove) Outcome
 held_code files units name = and_then (bytes_of Code most_code_bytes (files name)) (code_of units)
+
+-- a result of reading is the due one: its value, or the refusal, where it was answered
+abbrev pub IsReadAs : {A B : Type 0} → Result A Outcome → (A → B) → Result B Outcome → Type 0
+IsReadAs result value due =
+    MatchResult result (λ x. due ≡ Ok (value x)) (λ refusal. IfAnswered refusal (due ≡ Err refusal))
 
 -- a refusal and its line
 pub record Refuses (refusal outcome : Outcome) (text : List ℕ) : Type 0 where
@@ -147,3 +153,10 @@ IsDueOfRequest files (Some request) outcome text = IsDueOfCommand files request 
 -- the outcome and the text are due for the words and the held files
 abbrev pub IsDue : List (List ℕ) → (List ℕ → Option (List ℕ)) → Outcome → List ℕ → Type 0
 IsDue words files outcome text = IsDueOfRequest files (request_of words) outcome text
+
+-- a result is told as due: its text with `Done`, or the refusal, where it was answered, with its line
+abbrev pub IsTold : {A : Type 0} → (Outcome → List ℕ → Type 0) → Result (String A) Outcome → Type 0
+IsTold Due result =
+    MatchResult result
+    (λ text. Due Done (string_bytes text))
+    (λ refusal. IfAnswered refusal (Due refusal (line_of refusal)))

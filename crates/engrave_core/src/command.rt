@@ -2,9 +2,7 @@
 ghost use Rattle.std.specs.Prelude.{◌≡◌, ◌⊎◌, Some, IfOk, IfErr, IfSome, MatchResult, map, string_bytes};
 ghost use Rattle.plane_exact.specs.Cone.{IsCone, IsFromOneTo};
 ghost use Rattle.job_words.specs.Request.{IsInRange, request_of};
-ghost use Rattle.engrave_core.specs.Due.{IsDue, IsChecked, IsDueOfCheck, IsDueOfCommand, clear_line, IsGivenBy, IsListed, IsProbed, IsProbeText, cone_of, held_code, held_drawing};
-ghost use Rattle.engrave_core.specs.Line.{line_of};
-ghost use Rattle.engrave_core.specs.Outcome.{IfAnswered};
+ghost use Rattle.engrave_core.specs.Due.{IsDue, IsChecked, IsDueOfCheck, IsDueOfCommand, clear_line, IsGivenBy, IsListed, IsProbed, IsProbeText, IsTold, cone_of, held_code, held_drawing};
 ghost use Rattle.engrave_core.specs.Refusals.{IsRefusalOfHeldCode, IsRefusalOfHeldDrawing, IsRefusalOfMoves, IsRefusalOfRequest, IsRefusalOfWords};
 ghost use Rattle.engrave_core.specs.Top.{IsCaused, IsTaken};
 
@@ -26,9 +24,7 @@ use std::alloc::{AllocError, Global};
 
 /// The text that the words' command writes, or the refusal.
 pub fn answer<D: Depot>(alloc: Global, words: &[String], depot: &mut D) -> Result<String, Outcome>
-    ensures told { IfSome (D.held depot.old) (λ files. MatchResult result
-        (λ text. IsDue (map string_bytes words.now) files Outcome.Done (string_bytes text))
-        (λ refusal. IfAnswered refusal (IsDue (map string_bytes words.now) files refusal (line_of refusal)))) }
+    ensures told { IfSome (D.held depot.old) (λ files. IsTold (IsDue (map string_bytes words.now) files) result) }
     ensures refusal { IfErr result (IsRefusalOfWords (request_of (map string_bytes words.now))) }
     ensures caused { IfErr result (IsCaused (D.faults depot.old) (D.faults depot.new) (D.misses depot.old) (D.misses depot.new)) }
     ensures made { IfOk result (λ _. IsTaken (map string_bytes words.now)) }
@@ -45,9 +41,7 @@ pub fn answer<D: Depot>(alloc: Global, words: &[String], depot: &mut D) -> Resul
 /// The text that the request's command writes, or the refusal.
 fn run<D: Depot>(alloc: Global, request: &Request, depot: &mut D) -> Result<String, Outcome>
     requires { IsInRange request.now }
-    ensures told { IfSome (D.held depot.old) (λ files. MatchResult result
-        (λ text. IsDueOfCommand files request.now Outcome.Done (string_bytes text))
-        (λ refusal. IfAnswered refusal (IsDueOfCommand files request.now refusal (line_of refusal)))) }
+    ensures told { IfSome (D.held depot.old) (λ files. IsTold (IsDueOfCommand files request.now) result) }
     ensures refusal { IfErr result (IsRefusalOfRequest request.now) }
     ensures caused { IfErr result (IsCaused (D.faults depot.old) (D.faults depot.new) (D.misses depot.old) (D.misses depot.new)) }
     ensures held { D.held depot.new ≡ D.held depot.old }
@@ -90,9 +84,7 @@ fn probe<D: Depot>(
 ) -> Result<String, Outcome>
     requires bit { IsCone bit.0 bit.1 rmax }
     requires limit { IsFromOneTo 32767 limit }
-    ensures told { IfSome (D.held depot.old) (λ files. MatchResult result
-        (λ text. IsGivenBy (IsProbed at (cone_of bit rmax) limit) (held_drawing files drawing.now) Outcome.Done (string_bytes text))
-        (λ refusal. IfAnswered refusal (IsGivenBy (IsProbed at (cone_of bit rmax) limit) (held_drawing files drawing.now) refusal (line_of refusal)))) }
+    ensures told { IfSome (D.held depot.old) (λ files. IsTold (IsGivenBy (IsProbed at (cone_of bit rmax) limit) (held_drawing files drawing.now)) result) }
     ensures refusal { IfErr result IsRefusalOfHeldDrawing }
     ensures caused { IfErr result (IsCaused (D.faults depot.old) (D.faults depot.new) (D.misses depot.old) (D.misses depot.new)) }
     ensures held { D.held depot.new ≡ D.held depot.old }
@@ -128,9 +120,7 @@ fn moves<D: Depot>(
     units: Units,
     depot: &mut D,
 ) -> Result<String, Outcome>
-    ensures told { IfSome (D.held depot.old) (λ files. MatchResult result
-        (λ text. IsGivenBy IsListed (held_code files units code.now) Outcome.Done (string_bytes text))
-        (λ refusal. IfAnswered refusal (IsGivenBy IsListed (held_code files units code.now) refusal (line_of refusal)))) }
+    ensures told { IfSome (D.held depot.old) (λ files. IsTold (IsGivenBy IsListed (held_code files units code.now)) result) }
     ensures refusal { IfErr result IsRefusalOfHeldCode }
     ensures caused { IfErr result (IsCaused (D.faults depot.old) (D.faults depot.new) (D.misses depot.old) (D.misses depot.new)) }
     ensures held { D.held depot.new ≡ D.held depot.old }
@@ -152,9 +142,7 @@ fn check<D: Depot>(
     depot: &mut D,
 ) -> Result<String, Outcome>
     requires { IsCone bit.0 bit.1 rmax }
-    ensures told { IfSome (D.held depot.old) (λ files. MatchResult result
-        (λ text. IsDueOfCheck files options.now.file options.now.units code.now (cone_of bit rmax) Outcome.Done (string_bytes text))
-        (λ refusal. IfAnswered refusal (IsDueOfCheck files options.now.file options.now.units code.now (cone_of bit rmax) refusal (line_of refusal)))) }
+    ensures told { IfSome (D.held depot.old) (λ files. IsTold (IsDueOfCheck files options.now.file options.now.units code.now (cone_of bit rmax)) result) }
     ensures refusal { IfErr result (λ refusal. IsRefusalOfHeldDrawing refusal ⊎ (IsRefusalOfHeldCode refusal ⊎ IsRefusalOfMoves refusal)) }
     ensures caused { IfErr result (IsCaused (D.faults depot.old) (D.faults depot.new) (D.misses depot.old) (D.misses depot.new)) }
     ensures held { D.held depot.new ≡ D.held depot.old }
@@ -176,9 +164,7 @@ fn check_moves(
     bit: &Bit,
     moves: &[LineMove],
 ) -> Result<String, Outcome>
-    ensures told { MatchResult result
-        (λ text. IsChecked bit.now drawing moves.now Outcome.Done (string_bytes text))
-        (λ refusal. IfAnswered refusal (IsChecked bit.now drawing moves.now refusal (line_of refusal))) }
+    ensures told { IsTold (IsChecked bit.now drawing moves.now) result }
     ensures refusal { IfErr result IsRefusalOfMoves }
 {
     let Ok(scene) = Scene::new(alloc, drawing) else {

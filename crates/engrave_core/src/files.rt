@@ -1,7 +1,6 @@
 // The files that a command names: loaded and read, or refused.
-ghost use Rattle.std.specs.Prelude.{◌≡◌, ◌≤◌, length, Ok, Err, IfOk, IfErr, IfSome, MatchResult};
-ghost use Rattle.engrave_core.specs.Due.{bytes_of, code_of, drawing_of, held_code, held_drawing, most_code_bytes, most_drawing_bytes};
-ghost use Rattle.engrave_core.specs.Outcome.{IfAnswered};
+ghost use Rattle.std.specs.Prelude.{◌≡◌, ◌≤◌, length, IfOk, IfErr, IfSome};
+ghost use Rattle.engrave_core.specs.Due.{IsReadAs, bytes_of, code_of, drawing_of, held_code, held_drawing, most_code_bytes, most_drawing_bytes};
 ghost use Rattle.engrave_core.specs.Refusals.{IsRefusalOfCode, IsRefusalOfFile, IsRefusalOfHeldCode, IsRefusalOfHeldDrawing, IsRefusalOfLoops};
 ghost use Rattle.engrave_core.specs.Top.{IsCaused};
 
@@ -24,9 +23,7 @@ pub const MOST_CODE_BYTES: u64 = 536_870_912;
 /// The drawing in the file of this name, or the refusal.
 #[tactic(auto, unfolding(crate::specs::Due::held_drawing))]
 pub fn load_drawing<D: Depot>(alloc: Global, name: &str, depot: &mut D) -> Result<Drawing, Outcome>
-    ensures told { IfSome (D.held depot.old) (λ files. MatchResult result
-        (λ drawing. held_drawing files name.now ≡ Ok drawing)
-        (λ refusal. IfAnswered refusal (held_drawing files name.now ≡ Err refusal))) }
+    ensures told { IfSome (D.held depot.old) (λ files. IsReadAs result (λ drawing. drawing) (held_drawing files name.now)) }
     ensures refusal { IfErr result IsRefusalOfHeldDrawing }
     ensures caused { IfErr result (IsCaused (D.faults depot.old) (D.faults depot.new) (D.misses depot.old) (D.misses depot.new)) }
     ensures held { D.held depot.new ≡ D.held depot.old }
@@ -45,9 +42,7 @@ pub fn load_code<D: Depot>(
     units: Units,
     depot: &mut D,
 ) -> Result<Vec<LineMove>, Outcome>
-    ensures told { IfSome (D.held depot.old) (λ files. MatchResult result
-        (λ moves. held_code files units name.now ≡ Ok moves.items)
-        (λ refusal. IfAnswered refusal (held_code files units name.now ≡ Err refusal))) }
+    ensures told { IfSome (D.held depot.old) (λ files. IsReadAs result (λ moves. moves.items) (held_code files units name.now)) }
     ensures refusal { IfErr result IsRefusalOfHeldCode }
     ensures caused { IfErr result (IsCaused (D.faults depot.old) (D.faults depot.new) (D.misses depot.old) (D.misses depot.new)) }
     ensures held { D.held depot.new ≡ D.held depot.old }
@@ -64,9 +59,7 @@ fn load_file<D: Depot>(
     cap: u64,
     depot: &mut D,
 ) -> Result<Vec<u8>, Outcome>
-    ensures told { IfSome (D.held depot.old) (λ files. MatchResult result
-        (λ bytes. bytes_of which cap (files name.now) ≡ Ok bytes.items)
-        (λ refusal. IfAnswered refusal (bytes_of which cap (files name.now) ≡ Err refusal))) }
+    ensures told { IfSome (D.held depot.old) (λ files. IsReadAs result (λ bytes. bytes.items) (bytes_of which cap (files name.now))) }
     ensures capped { IfOk result (λ bytes. length bytes.items ≤ cap) }
     ensures refusal { IfErr result (IsRefusalOfFile which) }
     ensures caused { IfErr result (IsCaused (D.faults depot.old) (D.faults depot.new) (D.misses depot.old) (D.misses depot.new)) }
@@ -87,9 +80,7 @@ fn load_file<D: Depot>(
 #[tactic(auto, unfolding(crate::specs::Due::drawing_of))]
 fn read_drawing(alloc: Global, bytes: &[u8]) -> Result<Drawing, Outcome>
     requires { length bytes.now ≤ most_drawing_bytes }
-    ensures told { MatchResult result
-        (λ drawing. drawing_of bytes.now ≡ Ok drawing)
-        (λ refusal. IfAnswered refusal (drawing_of bytes.now ≡ Err refusal)) }
+    ensures told { IsReadAs result (λ drawing. drawing) (drawing_of bytes.now) }
     ensures refusal { IfErr result IsRefusalOfLoops }
 {
     match read_loops(alloc, bytes) {
@@ -108,9 +99,7 @@ fn read_drawing(alloc: Global, bytes: &[u8]) -> Result<Drawing, Outcome>
 #[tactic(auto, unfolding(crate::specs::Due::code_of))]
 fn read_code(alloc: Global, units: Units, bytes: &[u8]) -> Result<Vec<LineMove>, Outcome>
     requires { length bytes.now ≤ most_code_bytes }
-    ensures told { MatchResult result
-        (λ moves. code_of units bytes.now ≡ Ok moves.items)
-        (λ refusal. IfAnswered refusal (code_of units bytes.now ≡ Err refusal)) }
+    ensures told { IsReadAs result (λ moves. moves.items) (code_of units bytes.now) }
     ensures refusal { IfErr result IsRefusalOfCode }
 {
     match moves_in(alloc, units, bytes) {
