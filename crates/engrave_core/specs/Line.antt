@@ -19,32 +19,33 @@ abbrev pub which_line : List ℕ → Which → List ℕ
 which_line refusal which.Drawing = refusal ++ codes " drawing\n"
 which_line refusal which.Code = refusal ++ codes " code\n"
 
+-- no run writes the word of `Memory`, which the program tells as the outcome `Memory`
 abbrev pub loops_words : LoopsKind → List ℕ
-loops_words loops.Syntax = codes " syntax\n"
-loops_words loops.Short = codes " short\n"
-loops_words loops.SamePoint = codes " same point\n"
-loops_words loops.OutOfRange = codes " out of range\n"
-loops_words loops.TooMany = codes " too many\n"
-loops_words loops.Memory = codes " memory\n"
+loops_words loops.Syntax = codes "syntax"
+loops_words loops.Short = codes "short"
+loops_words loops.SamePoint = codes "same point"
+loops_words loops.OutOfRange = codes "out of range"
+loops_words loops.TooMany = codes "too many"
+loops_words loops.Memory = codes "memory"
 
 abbrev pub loops_line : LoopsFault → List ℕ
-loops_line fault = codes "input loops " ++ decimal fault.at ++ loops_words fault.kind
+loops_line fault = codes "input loops " ++ decimal fault.at ++ codes " " ++ loops_words fault.kind ++ codes "\n"
 
 abbrev pub code_words : CodeKind → List ℕ
-code_words code.Word = codes " word\n"
-code_words code.Number = codes " number\n"
-code_words code.OffGrid = codes " off grid\n"
-code_words code.Twice = codes " twice\n"
-code_words code.Units = codes " units\n"
-code_words code.Incremental = codes " incremental\n"
-code_words code.Unplaced = codes " unplaced\n"
-code_words code.OutOfRange = codes " out of range\n"
-code_words code.LongLine = codes " long line\n"
-code_words code.OpenComment = codes " open comment\n"
-code_words code.TooMany = codes " too many\n"
+code_words code.Word = codes "word"
+code_words code.Number = codes "number"
+code_words code.OffGrid = codes "off grid"
+code_words code.Twice = codes "twice"
+code_words code.Units = codes "units"
+code_words code.Incremental = codes "incremental"
+code_words code.Unplaced = codes "unplaced"
+code_words code.OutOfRange = codes "out of range"
+code_words code.LongLine = codes "long line"
+code_words code.OpenComment = codes "open comment"
+code_words code.TooMany = codes "too many"
 
 abbrev pub code_line : CodeFault → List ℕ
-code_line fault = codes "input code line " ++ decimal fault.line ++ code_words fault.kind
+code_line fault = codes "input code line " ++ decimal fault.line ++ codes " " ++ code_words fault.kind ++ codes "\n"
 
 abbrev pub input_line : InputFault → List ℕ
 input_line (TooLong which) = which_line (codes "input too long") which

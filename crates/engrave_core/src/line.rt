@@ -1,6 +1,6 @@
 // The lines that tell a refusal.
 ghost use Rattle.std.specs.Prelude.{◌≡◌, string_bytes, IfOk, MatchOption};
-ghost use Rattle.engrave_core.specs.Line.{line_of, input_line, loops_line, code_line, verdict_line};
+ghost use Rattle.engrave_core.specs.Line.{line_of, input_line, loops_line, loops_words, code_line, code_words, verdict_line};
 
 use crate::outcome::{InputFault, Outcome, Which};
 use gcode_text::fault::{CodeFault, CodeKind};
@@ -38,13 +38,21 @@ fn line_of_loops(alloc: Global, fault: &LoopsFault) -> Result<String, AllocError
     ensures { IfOk result (λ line. string_bytes line ≡ loops_line fault.now) }
 {
     let at = fault.at;
-    match fault.kind {
-        LoopsKind::Syntax => format!(in alloc; "input loops {at} syntax\n"),
-        LoopsKind::Short => format!(in alloc; "input loops {at} short\n"),
-        LoopsKind::SamePoint => format!(in alloc; "input loops {at} same point\n"),
-        LoopsKind::OutOfRange => format!(in alloc; "input loops {at} out of range\n"),
-        LoopsKind::TooMany => format!(in alloc; "input loops {at} too many\n"),
-        LoopsKind::Memory => format!(in alloc; "input loops {at} memory\n"),
+    let words = words_of_loops_kind(fault.kind);
+    format!(in alloc; "input loops {at} {words}\n")
+}
+
+/// No run writes the word of `Memory`, which `read_drawing` tells as the outcome `Memory`.
+fn words_of_loops_kind(kind: LoopsKind) -> &'static str
+    ensures { result.now ≡ loops_words kind }
+{
+    match kind {
+        LoopsKind::Syntax => "syntax",
+        LoopsKind::Short => "short",
+        LoopsKind::SamePoint => "same point",
+        LoopsKind::OutOfRange => "out of range",
+        LoopsKind::TooMany => "too many",
+        LoopsKind::Memory => "memory",
     }
 }
 
@@ -52,18 +60,25 @@ fn line_of_code(alloc: Global, fault: &CodeFault) -> Result<String, AllocError>
     ensures { IfOk result (λ line. string_bytes line ≡ code_line fault.now) }
 {
     let line = fault.line;
-    match fault.kind {
-        CodeKind::Word => format!(in alloc; "input code line {line} word\n"),
-        CodeKind::Number => format!(in alloc; "input code line {line} number\n"),
-        CodeKind::OffGrid => format!(in alloc; "input code line {line} off grid\n"),
-        CodeKind::Twice => format!(in alloc; "input code line {line} twice\n"),
-        CodeKind::Units => format!(in alloc; "input code line {line} units\n"),
-        CodeKind::Incremental => format!(in alloc; "input code line {line} incremental\n"),
-        CodeKind::Unplaced => format!(in alloc; "input code line {line} unplaced\n"),
-        CodeKind::OutOfRange => format!(in alloc; "input code line {line} out of range\n"),
-        CodeKind::LongLine => format!(in alloc; "input code line {line} long line\n"),
-        CodeKind::OpenComment => format!(in alloc; "input code line {line} open comment\n"),
-        CodeKind::TooMany => format!(in alloc; "input code line {line} too many\n"),
+    let words = words_of_code_kind(fault.kind);
+    format!(in alloc; "input code line {line} {words}\n")
+}
+
+fn words_of_code_kind(kind: CodeKind) -> &'static str
+    ensures { result.now ≡ code_words kind }
+{
+    match kind {
+        CodeKind::Word => "word",
+        CodeKind::Number => "number",
+        CodeKind::OffGrid => "off grid",
+        CodeKind::Twice => "twice",
+        CodeKind::Units => "units",
+        CodeKind::Incremental => "incremental",
+        CodeKind::Unplaced => "unplaced",
+        CodeKind::OutOfRange => "out of range",
+        CodeKind::LongLine => "long line",
+        CodeKind::OpenComment => "open comment",
+        CodeKind::TooMany => "too many",
     }
 }
 

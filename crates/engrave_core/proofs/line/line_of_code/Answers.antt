@@ -1,0 +1,14 @@
+-- Answers the goals of `line_of_code`.
+use Rattle.std.specs.Prelude.{codes, decimal, string_bytes}
+use Rattle.std.proofs.Common.{sym, ◌++◌, append_assoc}
+use Rattle.engrave_core.specs.Line.{code_line}
+use Rattle.engrave_core.proofs.Texts.{IfOk-bytes}
+use Rattle.engrave_core.proofs.line.line_of_code.Goals as goal
+
+pub returns : goal.returns
+returns c =
+    IfOk-bytes string_bytes c.format.result
+    (codes "input code line " ++ (decimal c.args.fault.now.line ++ (codes " " ++ (c.words_of_code_kind-words.result.now ++ codes "\n"))))
+    (code_line c.args.fault.now)
+    (rw c.words_of_code_kind-words.ensures (sym (simp append_assoc)))
+    c.format.ensures.ok
