@@ -10,7 +10,7 @@ use Rattle.engrave_core.specs.declared.outcome.Outcome.TheVariants.{Done, NotCle
 use Rattle.engrave_core.specs.declared.outcome.Which.{Which}
 use Rattle.engrave_core.specs.declared.outcome.Which.TheVariants.{Drawing, Code}
 
--- of a file
+-- the refusals of a file
 abbrev pub IsRefusalOfFile : Which → Outcome → Type 0
 IsRefusalOfFile which (Input (TooLong other)) = other ≡ which
 IsRefusalOfFile which (Absent other) = other ≡ which
@@ -18,38 +18,40 @@ IsRefusalOfFile which ReadFault = Unit {0}
 IsRefusalOfFile which Memory = Unit {0}
 IsRefusalOfFile which outcome = ⊥
 
--- of a text in loops form; want of memory isn't told as a fault of the text
+-- the refusals of a text in loops form; want of memory isn't told as a fault of the text
 abbrev pub IsRefusalOfLoops : Outcome → Type 0
 IsRefusalOfLoops (Input (Loops fault)) = fault.kind ≢ loops.Memory
 IsRefusalOfLoops Memory = Unit {0}
 IsRefusalOfLoops outcome = ⊥
 
--- of a text as code
+-- the refusals of a text as code
 abbrev pub IsRefusalOfCode : Outcome → Type 0
 IsRefusalOfCode (Input (CodeOf fault)) = Unit {0}
 IsRefusalOfCode Memory = Unit {0}
 IsRefusalOfCode outcome = ⊥
 
--- of the moves of a code
+-- the refusals of the moves of a code
 abbrev pub IsRefusalOfMoves : Outcome → Type 0
 IsRefusalOfMoves (NotClear fault) = fault ≢ verdict.Clear
 IsRefusalOfMoves Memory = Unit {0}
 IsRefusalOfMoves outcome = ⊥
 
+-- the refusals of the file that `--drawing` names
 abbrev pub IsRefusalOfHeldDrawing : Outcome → Type 0
 IsRefusalOfHeldDrawing outcome = IsRefusalOfFile Drawing outcome ⊎ IsRefusalOfLoops outcome
 
+-- the refusals of the file that `--code` names
 abbrev pub IsRefusalOfHeldCode : Outcome → Type 0
 IsRefusalOfHeldCode outcome = IsRefusalOfFile Code outcome ⊎ IsRefusalOfCode outcome
 
--- of words that are taken
+-- the refusals of words that are taken
 abbrev pub IsRefusalOfRequest : Request → Outcome → Type 0
 IsRefusalOfRequest (Probe drawing at bit rmax limit) outcome = IsRefusalOfHeldDrawing outcome
 IsRefusalOfRequest (Moves code units) outcome = IsRefusalOfHeldCode outcome
 IsRefusalOfRequest (Check drawing code bit rmax) outcome =
     IsRefusalOfHeldDrawing outcome ⊎ (IsRefusalOfHeldCode outcome ⊎ IsRefusalOfMoves outcome)
 
--- of words: the request that they make, if they are taken
+-- the refusals of words, by the request that they make, if they are taken
 abbrev pub IsRefusalOfWords : Option Request → Outcome → Type 0
 IsRefusalOfWords None Usage = Unit {0}
 IsRefusalOfWords None Memory = Unit {0}
