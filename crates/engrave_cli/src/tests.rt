@@ -1,4 +1,5 @@
-// Probes over files in memory: worked examples with their text and status, devices that fail, and rooms of a sink.
+// The top call over files in memory and of the host: worked examples with their text and status, the plain program's
+// depths, and devices that fail; and how segments meet, of plane_exact.
 ghost use Rattle.std.specs.Prelude.{◌≤◌};
 
 use engrave_core::outcome::{Outcome, status};
