@@ -13,7 +13,8 @@ struct Offset {
     ghost up: { IsDifference y },
 }
 
-fn between(from: Point, to: Point) -> Offset
+// The offset of one grid point from another, `to - from`.
+fn offset_from(from: Point, to: Point) -> Offset
     ensures across { result.x ≡ to.x -ℤ from.x }
     ensures up { result.y ≡ to.y -ℤ from.y }
 {
@@ -44,7 +45,7 @@ pub fn cross(o: Point, a: Point, b: Point) -> i64
     ensures value { result ≡ cross_of o a b }
     ensures range { IsProduct result }
 {
-    between(o, a).cross(between(o, b))
+    offset_from(o, a).cross(offset_from(o, b))
 }
 
 /// The dot product (a - o) · (b - o): above 0 where the ways from `o` to `a` and to `b` make an angle below a right one.
@@ -52,5 +53,5 @@ pub fn dot(o: Point, a: Point, b: Point) -> i64
     ensures value { result ≡ dot_of o a b }
     ensures range { IsProduct result }
 {
-    between(o, a).dot(between(o, b))
+    offset_from(o, a).dot(offset_from(o, b))
 }

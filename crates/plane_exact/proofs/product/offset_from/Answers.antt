@@ -1,8 +1,8 @@
--- Answers the goals of `between`.
+-- Answers the goals of `offset_from`.
 use Rattle.std.proofs.Common.{sym, subst}
 use Rattle.plane_exact.specs.Plane.{IsCoordinate}
 use Rattle.plane_exact.proofs.Ranges.{difference_taken}
-use Rattle.plane_exact.proofs.product.between.Goals as goal
+use Rattle.plane_exact.proofs.product.offset_from.Goals as goal
 
 pub invariant_of-result : goal.invariant_of-result
 invariant_of-result c =
