@@ -10,8 +10,8 @@ use Rattle.plane_exact.specs.Distance.{square, scaled_distance}
 use Rattle.plane_exact.specs.Product.{cross_of, dot_of}
 use Rattle.plane_exact.proofs.Nearest.{KeepsOff, length_squared, place, off_by_start, off_by_finish, off_by_foot, start_off, finish_off, foot_off}
 
-abbrev pub IsClear : ℤ → ℤ → RationalPoint → GridPoint → GridPoint → Type 0
-IsClear R S v a b = (w : RationalPoint) → IsBetween a b w → (R *ℤ square (v.over *ℤ w.over)) ≤ℤ (scaled_distance v w *ℤ S)
+abbrev pub IsFarEnough : ℤ → ℤ → RationalPoint → GridPoint → GridPoint → Type 0
+IsFarEnough R S v a b = (w : RationalPoint) → IsBetween a b w → (R *ℤ square (v.over *ℤ w.over)) ≤ℤ (scaled_distance v w *ℤ S)
 
 -- the way from the centre to the segment's start, and from there to its finish, times the centre's denominator
 abbrev pub SegmentKeepsOff : ℤ → ℤ → RationalPoint → GridPoint → GridPoint → Type 0
@@ -39,14 +39,14 @@ unscaled R S m o n X Y x y ex ey some h =
     ∙ ring (o ∷ x ∷ y ∷ S ∷ []) (((V 0 ⊗ V 1) ⊗ (V 0 ⊗ V 1) ⊕ (V 0 ⊗ V 2) ⊗ (V 0 ⊗ V 2)) ⊗ V 3) ((V 0 ⊗ V 0) ⊗ (V 3 ⊗ (V 1 ⊗ V 1 ⊕ V 2 ⊗ V 2))) tt in
     cancel_le N (R *ℤ square (m *ℤ o)) (length_squared X Y *ℤ S) p (omega (arith, ints))
 
-pub clear_of_off : (R S : ℤ) (v : RationalPoint) (a b : GridPoint) → SegmentKeepsOff R S v a b → IsClear R S v a b
+pub clear_of_off : (R S : ℤ) (v : RationalPoint) (a b : GridPoint) → SegmentKeepsOff R S v a b → IsFarEnough R S v a b
 clear_of_off R S v a b off w on =
     unscaled R S v.over w.over on.n _ _ _ _
     (scaled_place v.over v.x w.over w.x a.x b.x on.k on.n on.across)
     (scaled_place v.over v.y w.over w.y a.y b.y on.k on.n on.up)
     on.some (off on.k on.n on.start on.finish on.some)
 
-pub off_of_clear : (R S : ℤ) (v : RationalPoint) (a b : GridPoint) → IsClear R S v a b → SegmentKeepsOff R S v a b
+pub off_of_clear : (R S : ℤ) (v : RationalPoint) (a b : GridPoint) → IsFarEnough R S v a b → SegmentKeepsOff R S v a b
 off_of_clear R S v a b clear k n start finish some =
     let wx = n *ℤ a.x +ℤ k *ℤ (b.x -ℤ a.x) in
     let wy = n *ℤ a.y +ℤ k *ℤ (b.y -ℤ a.y) in
@@ -103,7 +103,7 @@ module _ (R S : ℤ) (p a b : GridPoint) (s : pos 0 ≤ℤ S) where
   along_finish : (ex +ℤ dx) *ℤ dx +ℤ (ey +ℤ dy) *ℤ dy ≡ dot_of b a p
   along_finish = ring atoms ((tex ⊕ tdx) ⊗ tdx ⊕ (tey ⊕ tdy) ⊗ tdy) ((V 2 ⊖ V 4) ⊗ (V 0 ⊖ V 4) ⊕ (V 3 ⊖ V 5) ⊗ (V 1 ⊖ V 5)) tt
 
-  pub clear_by_start : dot_of a b p ≤ℤ pos 0 → (R ≤ℤ (dot_of p a a *ℤ S)) ↔ IsClear R S (rational p) a b
+  pub clear_by_start : dot_of a b p ≤ℤ pos 0 → (R ≤ℤ (dot_of p a a *ℤ S)) ↔ IsFarEnough R S (rational p) a b
   clear_by_start away =
       let along = along_start in
       let one = unit in
@@ -112,7 +112,7 @@ module _ (R S : ℤ) (p a b : GridPoint) (s : pos 0 ≤ℤ S) where
         (λ c. let h = start_off (R *ℤ pos 1) S ex ey dx dy (off_of_clear R S (rational p) a b c) in omega (arith, ints)),
       )
 
-  pub clear_by_finish : dot_of b a p ≤ℤ pos 0 → (R ≤ℤ (dot_of p b b *ℤ S)) ↔ IsClear R S (rational p) a b
+  pub clear_by_finish : dot_of b a p ≤ℤ pos 0 → (R ≤ℤ (dot_of p b b *ℤ S)) ↔ IsFarEnough R S (rational p) a b
   clear_by_finish near =
       let along = along_finish in
       let one = unit in
@@ -121,7 +121,7 @@ module _ (R S : ℤ) (p a b : GridPoint) (s : pos 0 ≤ℤ S) where
         (λ c. let h = finish_off (R *ℤ pos 1) S ex ey dx dy (off_of_clear R S (rational p) a b c) in omega (arith, ints)),
       )
 
-  pub clear_by_foot : pos 0 <ℤ dot_of a b p → pos 0 <ℤ dot_of b a p → ((R *ℤ dot_of a b b) ≤ℤ ((cross_of a b p *ℤ cross_of a b p) *ℤ S)) ↔ IsClear R S (rational p) a b
+  pub clear_by_foot : pos 0 <ℤ dot_of a b p → pos 0 <ℤ dot_of b a p → ((R *ℤ dot_of a b b) ≤ℤ ((cross_of a b p *ℤ cross_of a b p) *ℤ S)) ↔ IsFarEnough R S (rational p) a b
   clear_by_foot before after =
       let start = along_start in
       let finish = along_finish in

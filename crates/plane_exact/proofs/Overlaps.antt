@@ -7,7 +7,7 @@ use Rattle.plane_exact.specs.Plane.{GridPoint, RationalPoint, rational}
 use Rattle.plane_exact.specs.Product.{cross_of, dot_of}
 use Rattle.plane_exact.specs.Meet.{IsSame, IsCommon, IsEndOfBoth, HasOne, HasMore}
 use Rattle.plane_exact.specs.declared.point.Seg.{Seg}
-use Rattle.plane_exact.proofs.Places.{at, IsAt, between, by_feet, same_place, IsWay, way_of, at_end}
+use Rattle.plane_exact.proofs.Places.{at, IsAt, between, by_feet, same_place, IsDirection, direction_of, at_end}
 
 -- a way along which two points differ is some way
 long_of : (dx dy fx fy hx hy : ℤ) → (dx *ℤ fx +ℤ dy *ℤ fy) <ℤ (dx *ℤ hx +ℤ dy *ℤ hy) → pos 0 <ℤ (dx *ℤ dx +ℤ dy *ℤ dy)
@@ -175,8 +175,8 @@ module _ (s t : Seg) (start_level : cross_of s.a s.b t.a ≡ pos 0) (finish_leve
         );
       }
 
-  way : IsWay (s.b.x -ℤ s.a.x) (s.b.y -ℤ s.a.y)
-  way = way_of (s.b.x -ℤ s.a.x) (s.b.y -ℤ s.a.y) (neg_ℤ (s.b.y -ℤ s.a.y)) (s.b.x -ℤ s.a.x) (λ e.
+  way : IsDirection (s.b.x -ℤ s.a.x) (s.b.y -ℤ s.a.y)
+  way = direction_of (s.b.x -ℤ s.a.x) (s.b.y -ℤ s.a.y) (neg_ℤ (s.b.y -ℤ s.a.y)) (s.b.x -ℤ s.a.x) (λ e.
       let some = long in
       let same = ring ((s.b.x -ℤ s.a.x) ∷ (s.b.y -ℤ s.a.y) ∷ []) (V 0 ⊗ V 0 ⊖ V 1 ⊗ M (V 1)) (V 0 ⊗ V 0 ⊕ V 1 ⊗ V 1) tt in
       omega (arith, ints))

@@ -109,11 +109,11 @@ here_finish : (x n a k b : ℤ) → x ≡ n *ℤ a +ℤ k *ℤ (b -ℤ a) → x 
 here_finish x n a k b e f = let split = ring (n ∷ a ∷ k ∷ b ∷ []) ((V 2 ⊖ V 0) ⊗ (V 3 ⊖ V 1)) (V 0 ⊗ V 1 ⊕ V 2 ⊗ (V 3 ⊖ V 1) ⊖ V 3 ⊗ V 0) tt in omega (arith, ints)
 
 -- no number but 0 makes both parts 0
-abbrev pub IsWay : ℤ → ℤ → Type 0
-IsWay dx dy = (z : ℤ) → z *ℤ dx ≡ pos 0 → z *ℤ dy ≡ pos 0 → z ≡ pos 0
+abbrev pub IsDirection : ℤ → ℤ → Type 0
+IsDirection dx dy = (z : ℤ) → z *ℤ dx ≡ pos 0 → z *ℤ dy ≡ pos 0 → z ≡ pos 0
 
-pub way_of : (dx dy ex ey : ℤ) → ¬ (dx *ℤ ey -ℤ dy *ℤ ex ≡ pos 0) → IsWay dx dy
-way_of dx dy ex ey h z e f =
+pub direction_of : (dx dy ex ey : ℤ) → ¬ (dx *ℤ ey -ℤ dy *ℤ ex ≡ pos 0) → IsDirection dx dy
+direction_of dx dy ex ey h z e f =
     let none : z *ℤ (dx *ℤ ey -ℤ dy *ℤ ex) ≡ pos 0 =
     ring (z ∷ dx ∷ dy ∷ ex ∷ ey ∷ []) (V 0 ⊗ (V 1 ⊗ V 4 ⊖ V 2 ⊗ V 3)) ((V 0 ⊗ V 1) ⊗ V 4 ⊖ (V 0 ⊗ V 2) ⊗ V 3) tt
     ∙ ap₂ (λ x y. x *ℤ ey -ℤ y *ℤ ex) e f
@@ -129,6 +129,6 @@ module _ (a b : GridPoint) (k : ℤ) (w : RationalPoint) (is : IsAt a b k w) whe
   at_end (inl e) = inl (record { across = start_here w.x w.over a.x k _ is.across e; up = start_here w.y w.over a.y k _ is.up e })
   at_end (inr e) = inr (record { across = finish_here w.x w.over a.x k b.x is.across e; up = finish_here w.y w.over a.y k b.y is.up e })
 
-  pub end_at : IsWay (b.x -ℤ a.x) (b.y -ℤ a.y) → IsSame w (rational a) ⊎ IsSame w (rational b) → (k ≡ pos 0) ⊎ (k -ℤ w.over ≡ pos 0)
+  pub end_at : IsDirection (b.x -ℤ a.x) (b.y -ℤ a.y) → IsSame w (rational a) ⊎ IsSame w (rational b) → (k ≡ pos 0) ⊎ (k -ℤ w.over ≡ pos 0)
   end_at way (inl e) = inl (way k (here_start w.x w.over a.x k _ is.across e.across) (here_start w.y w.over a.y k _ is.up e.up))
   end_at way (inr e) = inr (way (k -ℤ w.over) (here_finish w.x w.over a.x k b.x is.across e.across) (here_finish w.y w.over a.y k b.y is.up e.up))

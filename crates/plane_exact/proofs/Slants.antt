@@ -7,7 +7,7 @@ use Rattle.plane_exact.specs.Plane.{RationalPoint}
 use Rattle.plane_exact.specs.Product.{cross_of}
 use Rattle.plane_exact.specs.Meet.{IsSame, IsCommon, IsEndOfBoth, HasOne}
 use Rattle.plane_exact.specs.declared.point.Seg.{Seg}
-use Rattle.plane_exact.proofs.Places.{at, IsAt, between, by_heights, same_place, IsWay, way_of, at_end, end_at}
+use Rattle.plane_exact.proofs.Places.{at, IsAt, between, by_heights, same_place, IsDirection, direction_of, at_end, end_at}
 
 -- k / n is A / (A - B)
 bounds : (k n A B : ℤ) → pos 0 ≤ℤ k → k ≤ℤ n → pos 1 ≤ℤ n → pos 0 <ℤ (A -ℤ B) → k *ℤ (A -ℤ B) ≡ n *ℤ A → (B ≤ℤ pos 0) × (pos 0 ≤ℤ A)
@@ -127,11 +127,11 @@ module _ (s t : Seg) where
       pub meet_within : ¬ (((cross_of s.a s.b t.a ≡ pos 0) ⊎ (cross_of s.a s.b t.b ≡ pos 0)) × ((cross_of t.a t.b s.a ≡ pos 0) ⊎ (cross_of t.a t.b s.b ≡ pos 0))) → HasOne s t (λ w. ¬ IsEndOfBoth s t w)
       meet_within h = record { point = joint; common = common; only = only; these = (λ e. h (of_second (end_at t.a t.b _ joint on_second way_second e.1), of_first (end_at s.a s.b _ joint on_first way_first e.0))) }
         where
-          way_first : IsWay (s.b.x -ℤ s.a.x) (s.b.y -ℤ s.a.y)
-          way_first = way_of _ _ (t.b.x -ℤ t.a.x) (t.b.y -ℤ t.a.y) (λ z. let e = turns in absurd (omega (arith, ints)))
+          way_first : IsDirection (s.b.x -ℤ s.a.x) (s.b.y -ℤ s.a.y)
+          way_first = direction_of _ _ (t.b.x -ℤ t.a.x) (t.b.y -ℤ t.a.y) (λ z. let e = turns in absurd (omega (arith, ints)))
 
-          way_second : IsWay (t.b.x -ℤ t.a.x) (t.b.y -ℤ t.a.y)
-          way_second = way_of _ _ (s.b.x -ℤ s.a.x) (s.b.y -ℤ s.a.y) (λ z. let e = turns_back in absurd (omega (arith, ints)))
+          way_second : IsDirection (t.b.x -ℤ t.a.x) (t.b.y -ℤ t.a.y)
+          way_second = direction_of _ _ (s.b.x -ℤ s.a.x) (s.b.y -ℤ s.a.y) (λ z. let e = turns_back in absurd (omega (arith, ints)))
 
           of_first : (cross_of t.a t.b s.a ≡ pos 0) ⊎ (cross_of t.a t.b s.a -ℤ (cross_of s.a s.b t.b -ℤ cross_of s.a s.b t.a) ≡ pos 0) → (cross_of t.a t.b s.a ≡ pos 0) ⊎ (cross_of t.a t.b s.b ≡ pos 0)
           of_first (inl z) = inl z
