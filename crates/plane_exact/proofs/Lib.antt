@@ -1,10 +1,15 @@
 -- The lemmas of the crate.
+
+-- numbers of machine words
 pub mod Ranges
+pub mod Wide
+pub mod Signs
+-- `dist_at_least`
 pub mod Nearest
 pub mod Apart
-pub mod Wide
+-- `passes_through`
 pub mod Collinear
-pub mod Signs
+-- `cross_kind`
 pub mod Places
 pub mod Slants
 pub mod Overlaps
