@@ -16,7 +16,7 @@ wide z = to_z w64 (of_z w64 z)
 narrow_is : (z : ℤ) → IsCoordinate z → narrow z ≡ z
 narrow_is z on = to_z-of_z w32 z (omega (arith, ints))
 
-wide_is : (z : ℤ) → FitsSigned w64 z → wide z ≡ z
+pub wide_is : (z : ℤ) → FitsSigned w64 z → wide z ≡ z
 wide_is z fits = to_z-of_z w64 z fits
 
 -- a coordinate as the code widens it
