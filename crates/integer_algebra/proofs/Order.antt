@@ -129,6 +129,13 @@ zero_product a b e = by_sign b
 pub zero_square : (a : ℤ) → a *ℤ a ≡ pos 0 → a ≡ pos 0
 zero_square a e = by_sign a (λ l. let p = times_of_negative a a l l in absurd (omega (arith, ints))) (λ z. z) (λ l. let p = times_pos a a l l in absurd (omega (arith, ints)))
 
+-- squares whose sum isn't above 0
+pub squares_zero : (a b : ℤ) → (a *ℤ a +ℤ b *ℤ b) ≤ℤ pos 0 → (a ≡ pos 0) × (b ≡ pos 0)
+squares_zero a b h =
+    let p = square_nonneg a in
+    let q = square_nonneg b in
+    (zero_square a (omega (arith, ints)), zero_square b (omega (arith, ints)))
+
 -- ---- two factors
 
 pub times_mono : (a b c d : ℤ) → pos 0 ≤ℤ a → a ≤ℤ b → pos 0 ≤ℤ c → c ≤ℤ d → (a *ℤ c) ≤ℤ (b *ℤ d)

@@ -2,7 +2,7 @@
 use Rattle.std.proofs.Common.{◌≡◌, ℤ, pos, ◌+ℤ◌, ◌-ℤ◌, ◌*ℤ◌, ◌≤ℤ◌, ◌<ℤ◌, [], ◌∷◌, arith, ap, ap₂, ◌∙◌}
 use Rattle.std.proofs.lemmas.Int.{ints, by_lt_z}
 use Rattle.integer_algebra.proofs.Ring.{ring, V, K, ◌⊕◌, ◌⊖◌, ◌⊗◌}
-use Rattle.integer_algebra.proofs.Order.{square_nonneg, times_nonpos, times_pos, times_le, times_lt, times_zero, cancel_same, sign_of_nonpos, zero_square}
+use Rattle.integer_algebra.proofs.Order.{square_nonneg, times_nonpos, times_pos, times_le, times_lt, times_zero, cancel_same, sign_of_nonpos, squares_zero}
 use Rattle.plane_exact.specs.Plane.{GridPoint, IsBetween, rational}
 use Rattle.plane_exact.specs.Product.{cross_of, dot_of}
 
@@ -15,13 +15,6 @@ record IsPart (fx fy dx dy : ℤ) : Type 0 where
   some : pos 1 ≤ℤ n
   across : n *ℤ fx ≡ k *ℤ dx
   up : n *ℤ fy ≡ k *ℤ dy
-
--- two squares whose sum is not above 0
-first_zero : (x y : ℤ) → (x *ℤ x +ℤ y *ℤ y) ≤ℤ pos 0 → x ≡ pos 0
-first_zero x y h = zero_square x (let p = square_nonneg x in let q = square_nonneg y in omega (arith, ints))
-
-second_zero : (x y : ℤ) → (x *ℤ x +ℤ y *ℤ y) ≤ℤ pos 0 → y ≡ pos 0
-second_zero x y h = zero_square y (let p = square_nonneg x in let q = square_nonneg y in omega (arith, ints))
 
 -- F L ≡ P P and F ≤ P
 shorter : (F P L : ℤ) → pos 0 ≤ℤ L → F *ℤ L ≡ P *ℤ P → F ≤ℤ P → P ≤ℤ L
@@ -66,11 +59,11 @@ module _ (fx fy dx dy : ℤ) where
         up = omega (arith, ints);
       })
       (λ short.
-      let no_x : dx ≡ pos 0 = first_zero dx dy short in
-      let no_y : dy ≡ pos 0 = second_zero dx dy short in
-      let flat : P ≡ pos 0 = ap₂ (λ x y. fx *ℤ x +ℤ fy *ℤ y) no_x no_y ∙ ring xs (V 0 ⊗ K (pos 0) ⊕ V 1 ⊗ K (pos 0)) (K (pos 0)) tt in
-      let at_x : fx ≡ pos 0 = first_zero fx fy (omega (arith, ints)) in
-      let at_y : fy ≡ pos 0 = second_zero fx fy (omega (arith, ints)) in
+      let no_way = squares_zero dx dy short in
+      let flat : P ≡ pos 0 = ap₂ (λ x y. fx *ℤ x +ℤ fy *ℤ y) no_way.0 no_way.1 ∙ ring xs (V 0 ⊗ K (pos 0) ⊕ V 1 ⊗ K (pos 0)) (K (pos 0)) tt in
+      let at_start = squares_zero fx fy (omega (arith, ints)) in
+      let at_x = at_start.0 in
+      let at_y = at_start.1 in
       record {
         k = pos 0;
         n = pos 1;

@@ -2,7 +2,7 @@
 use Rattle.std.proofs.Common.{◌≡◌, ℤ, pos, ◌+ℤ◌, ◌-ℤ◌, ◌*ℤ◌, neg_ℤ, ◌≤ℤ◌, ◌<ℤ◌, inl, inr, [], ◌∷◌, arith, refl, sym, ap, ap₂, ◌∙◌}
 use Rattle.std.proofs.lemmas.Int.{ints, by_lt_z}
 use Rattle.integer_algebra.proofs.Ring.{ring, V, M, ◌⊕◌, ◌⊖◌, ◌⊗◌}
-use Rattle.integer_algebra.proofs.Order.{square_nonneg, zero_square, times_zero, times_nonneg, times_negative, times_lt, times_le, cancel_le, cancel_same}
+use Rattle.integer_algebra.proofs.Order.{squares_zero, times_zero, times_nonneg, times_negative, times_lt, times_le, cancel_le, cancel_same}
 use Rattle.plane_exact.specs.Plane.{GridPoint, RationalPoint, rational}
 use Rattle.plane_exact.specs.Product.{cross_of, dot_of}
 use Rattle.plane_exact.specs.Meet.{IsSame, IsCommon, IsEndOfBoth, HasOne, HasMore}
@@ -12,12 +12,9 @@ use Rattle.plane_exact.proofs.Places.{at, IsAt, between, by_feet, same_place, Is
 -- a way along which two points differ is some way
 long_of : (dx dy fx fy hx hy : ℤ) → (dx *ℤ fx +ℤ dy *ℤ fy) <ℤ (dx *ℤ hx +ℤ dy *ℤ hy) → pos 0 <ℤ (dx *ℤ dx +ℤ dy *ℤ dy)
 long_of dx dy fx fy hx hy h = by_lt_z (pos 0) (dx *ℤ dx +ℤ dy *ℤ dy) (λ l. l) (λ short.
-    let p = square_nonneg dx in
-    let q = square_nonneg dy in
-    let no_x : dx ≡ pos 0 = zero_square dx (omega (arith, ints)) in
-    let no_y : dy ≡ pos 0 = zero_square dy (omega (arith, ints)) in
-    let f = ap₂ (λ x y. x *ℤ fx +ℤ y *ℤ fy) no_x no_y in
-    let g = ap₂ (λ x y. x *ℤ hx +ℤ y *ℤ hy) no_x no_y in
+    let none = squares_zero dx dy short in
+    let f = ap₂ (λ x y. x *ℤ fx +ℤ y *ℤ fy) none.0 none.1 in
+    let g = ap₂ (λ x y. x *ℤ hx +ℤ y *ℤ hy) none.0 none.1 in
     absurd (omega (arith, ints)))
 
 -- one coordinate of a place on both segments

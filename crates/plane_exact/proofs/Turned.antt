@@ -2,7 +2,7 @@
 use Rattle.std.proofs.Common.{◌≡◌, ◌≢◌, ℤ, pos, ◌+ℤ◌, ◌-ℤ◌, ◌*ℤ◌, ◌<ℤ◌, inl, inr, [], ◌∷◌, arith, sym, subst, ap, ap₂, ◌∙◌}
 use Rattle.std.proofs.lemmas.Int.{ints, by_lt_z}
 use Rattle.integer_algebra.proofs.Ring.{ring, V, ◌⊕◌, ◌⊖◌, ◌⊗◌}
-use Rattle.integer_algebra.proofs.Order.{square_nonneg, zero_square, cancel_same}
+use Rattle.integer_algebra.proofs.Order.{squares_zero, cancel_same}
 use Rattle.plane_exact.specs.Plane.{GridPoint, RationalPoint, IsBetween, rational}
 use Rattle.plane_exact.specs.Product.{cross_of, dot_of}
 use Rattle.plane_exact.specs.Meet.{IsSame, IsCommon, IsEnd, IsMeet}
@@ -63,10 +63,9 @@ same_end L u v d a p q h e f g =
 
 long : (s : Seg) → s.a ≢ s.b → pos 0 <ℤ dot_of s.a s.b s.b
 long s apart = by_lt_z (pos 0) (dot_of s.a s.b s.b) (λ l. l) (λ short.
-    let p = square_nonneg (s.b.x -ℤ s.a.x) in
-    let q = square_nonneg (s.b.y -ℤ s.a.y) in
-    let no_x = zero_square (s.b.x -ℤ s.a.x) (omega (arith, ints)) in
-    let no_y = zero_square (s.b.y -ℤ s.a.y) (omega (arith, ints)) in
+    let none = squares_zero (s.b.x -ℤ s.a.x) (s.b.y -ℤ s.a.y) short in
+    let no_x = none.0 in
+    let no_y = none.1 in
     absurd (apart (same_point s.a s.b (omega (arith, ints)) (omega (arith, ints)))))
 
 pub feet_differ : (s t : Seg) → s.a ≢ s.b → t.a ≢ t.b → cross_of s.a s.b t.a ≡ pos 0 → cross_of s.a s.b t.b ≡ pos 0 → ¬ (dot_of s.a s.b t.a ≡ dot_of s.a s.b t.b)
