@@ -5,13 +5,9 @@
 use Rattle.std.proofs.Common.{◌≡◌, ℤ, pos, neg_ℤ, ◌+ℤ◌, ◌-ℤ◌, ◌*ℤ◌, ◌≤ℤ◌, ◌<ℤ◌, [], ◌∷◌, arith, ap, ap₂, sym, subst, ◌∙◌}
 use Rattle.std.proofs.lemmas.Int.{ints}
 use Rattle.integer_algebra.proofs.Ring.{ring, V, K, M, ◌⊕◌, ◌⊖◌, ◌⊗◌}
-use Rattle.integer_algebra.proofs.Order.{times_nonneg, times_pos}
+use Rattle.integer_algebra.proofs.Order.{mix, mix_nonneg, times_nonneg, times_pos}
 use Rattle.plane_exact.specs.Plane.{GridPoint, RationalPoint, IsBetween}
 use Rattle.evenodd_region.specs.Parity.{IsOnPath}
-
--- s p + t q
-abbrev pub mix : ℤ → ℤ → ℤ → ℤ → ℤ
-mix s t p q = s *ℤ p +ℤ t *ℤ q
 
 -- The weights of the path's ends and those of the edge's ends give two places at one height and over one denominator; the
 -- gap is how far the edge's place is to the right of the path's, times that denominator.
@@ -74,14 +70,8 @@ module _ (v w : RationalPoint) (a b : GridPoint) where
 
 -- ---- weighted sums of two levels
 
-pub weighted_nonneg : (h g s t : ℤ) → pos 0 ≤ℤ h → pos 0 ≤ℤ g → pos 0 ≤ℤ s → pos 0 ≤ℤ t → pos 0 ≤ℤ mix h g s t
-weighted_nonneg h g s t h_sign g_sign s_sign t_sign =
-    let p = times_nonneg h s h_sign s_sign in
-    let q = times_nonneg g t g_sign t_sign in
-    omega (arith, ints)
-
-weighted_some : (h g s t : ℤ) → pos 0 <ℤ h → pos 0 ≤ℤ g → pos 1 ≤ℤ s → pos 0 ≤ℤ t → pos 1 ≤ℤ mix h g s t
-weighted_some h g s t h_sign g_sign s_sign t_sign =
+mix_some : (h g s t : ℤ) → pos 0 <ℤ h → pos 0 ≤ℤ g → pos 1 ≤ℤ s → pos 0 ≤ℤ t → pos 1 ≤ℤ mix h g s t
+mix_some h g s t h_sign g_sign s_sign t_sign =
     let p = times_pos h s h_sign (omega (arith, ints)) in
     let q = times_nonneg g t g_sign t_sign in
     omega (arith, ints)
@@ -113,17 +103,17 @@ module _ (v w : RationalPoint) (a b : GridPoint) where
       let h_sign : pos 0 ≤ℤ h = omega (arith, ints) in
       let g_sign : pos 0 ≤ℤ neg_ℤ g = omega (arith, ints) in
       let all_some : pos 1 ≤ℤ of (l.at_a +ℤ l.at_b) (m.at_a +ℤ m.at_b) =
-      weighted_some h (neg_ℤ g) _ _ right g_sign l.some (let some = m.some in omega (arith, ints)) in
+      mix_some h (neg_ℤ g) _ _ right g_sign l.some (let some = m.some in omega (arith, ints)) in
       let whole = parted h (neg_ℤ g) l.at_a m.at_a l.at_b m.at_b in
       record {
         at_v = of l.at_v m.at_v;
         at_w = of l.at_w m.at_w;
         at_a = of l.at_a m.at_a;
         at_b = of l.at_b m.at_b;
-        v_sign = weighted_nonneg h (neg_ℤ g) _ _ h_sign g_sign l.v_sign m.v_sign;
-        w_sign = weighted_nonneg h (neg_ℤ g) _ _ h_sign g_sign l.w_sign m.w_sign;
-        a_sign = weighted_nonneg h (neg_ℤ g) _ _ h_sign g_sign l.a_sign m.a_sign;
-        b_sign = weighted_nonneg h (neg_ℤ g) _ _ h_sign g_sign l.b_sign m.b_sign;
+        v_sign = mix_nonneg h (neg_ℤ g) _ _ h_sign g_sign l.v_sign m.v_sign;
+        w_sign = mix_nonneg h (neg_ℤ g) _ _ h_sign g_sign l.w_sign m.w_sign;
+        a_sign = mix_nonneg h (neg_ℤ g) _ _ h_sign g_sign l.a_sign m.a_sign;
+        b_sign = mix_nonneg h (neg_ℤ g) _ _ h_sign g_sign l.b_sign m.b_sign;
         some = subst (λ z. pos 1 ≤ℤ z) whole all_some;
         over = exchanged h (neg_ℤ g) _ _ _ _ v.over w.over ∙ ap₂ of l.over m.over ∙ whole;
         height = exchanged h (neg_ℤ g) _ _ _ _ v.y w.y ∙ ap₂ of l.height m.height ∙ sym (exchanged h (neg_ℤ g) _ _ _ _ a.y b.y);

@@ -6,7 +6,7 @@ use Rattle.std.specs.Prelude.{All}
 use Rattle.std.proofs.Common.{◌≡◌, List, pos, ◌-ℤ◌, ◌*ℤ◌, ◌≤ℤ◌, ◌<ℤ◌, arith, subst, inl, inr, Bool, true, false, refl, nat_lt}
 use Rattle.std.proofs.lemmas.Int.{ints}
 use Rattle.std.proofs.lemmas.List.Elements.{All-weaker}
-use Rattle.integer_algebra.proofs.Order.{times_nonneg, times_pos}
+use Rattle.integer_algebra.proofs.Order.{mix_nonneg, times_pos}
 use Rattle.plane_exact.specs.Cone.{Cone}
 use Rattle.plane_exact.specs.Plane.{GridPoint, RationalPoint}
 use Rattle.plane_exact.specs.declared.moves.Move.{Move}
@@ -70,8 +70,7 @@ never_deep : (mv : Move) (s : Moment) → pos 0 ≤ℤ mv.from.h → pos 0 ≤�
 never_deep mv s from to =
     let start = s.start in
     let finish = s.finish in
-    let p = times_nonneg (s.n -ℤ s.k) mv.from.h (omega (arith, ints)) from in
-    let q = times_nonneg s.k mv.to.h start to in
+    let level = mix_nonneg (s.n -ℤ s.k) s.k mv.from.h mv.to.h (omega (arith, ints)) start from to in
     omega (arith, ints)
 
 pub surface_is_safe : SurfaceMoveLaw

@@ -4,13 +4,12 @@ use Rattle.std.specs.Prelude.{◌⊎◌, if◌then◌else◌}
 use Rattle.std.proofs.Common.{◌≡◌, ◌<◌, nat_lt, Bool, true, false, refl, ℤ, pos, negsuc, ◌+ℤ◌, ◌-ℤ◌, ◌*ℤ◌, ◌≤ℤ◌, ◌<ℤ◌, [], ◌∷◌, arith, ap, ap₂, sym, ◌∙◌, inl, inr}
 use Rattle.std.proofs.lemmas.Int.{ints, by_lt_z}
 use Rattle.integer_algebra.proofs.Ring.{ring, V, K, M, ◌⊕◌, ◌⊖◌, ◌⊗◌}
-use Rattle.integer_algebra.proofs.Order.{times_nonneg, times_pos}
+use Rattle.integer_algebra.proofs.Order.{mix, mix_nonneg, times_nonneg, times_pos}
 use Rattle.plane_exact.specs.Plane.{GridPoint, RationalPoint, rational}
 use Rattle.plane_exact.specs.declared.moves.Move.{Move}
 use Rattle.engrave_model.specs.Clear.{depth_of, IsDeep, first_deep}
 use Rattle.engrave_model.specs.Removal.{Moment, between, place_at, depth_at}
 use Rattle.evenodd_region.specs.Parity.{IsOnPath}
-use Rattle.evenodd_region.proofs.Levels.{mix, weighted_nonneg}
 use Rattle.evenodd_region.proofs.Discs.{IsSamePlace}
 
 -- ---- a moment between two
@@ -53,14 +52,14 @@ module _ (s t : Moment) (k n : ℤ) (start : pos 0 ≤ℤ k) (finish : k ≤ℤ 
       let t_some = t.some in
       let s_finish = s.finish in
       let t_finish = t.finish in
-      let rest = weighted_nonneg of_s of_t (s.n -ℤ s.k) (t.n -ℤ t.k) s_sign t_sign (omega (arith, ints)) (omega (arith, ints)) in
+      let rest = mix_nonneg of_s of_t (s.n -ℤ s.k) (t.n -ℤ t.k) s_sign t_sign (omega (arith, ints)) (omega (arith, ints)) in
       let parts = ring (of_s ∷ of_t ∷ s.k ∷ s.n ∷ t.k ∷ t.n ∷ [])
       (V 0 ⊗ (V 3 ⊖ V 2) ⊕ V 1 ⊗ (V 5 ⊖ V 4)) ((V 0 ⊗ V 3 ⊕ V 1 ⊗ V 5) ⊖ (V 0 ⊗ V 2 ⊕ V 1 ⊗ V 4)) tt in
       let positive = some_of_both of_s of_t s.n t.n s_sign t_sign (omega (arith, ints)) (omega (arith, ints)) one_some in
       record {
         k = mix of_s of_t s.k t.k;
         n = mix of_s of_t s.n t.n;
-        start = weighted_nonneg of_s of_t s.k t.k s_sign t_sign s.start t.start;
+        start = mix_nonneg of_s of_t s.k t.k s_sign t_sign s.start t.start;
         finish = omega (arith, ints);
         some = omega (arith, ints);
       }

@@ -145,6 +145,16 @@ times_mono a b c d h k l m =
     let e = minus_times b a d in
     omega (arith, ints)
 
+-- a sum of two products
+abbrev pub mix : (h g s t : ℤ) → ℤ
+mix h g s t = h *ℤ s +ℤ g *ℤ t
+
+pub mix_nonneg : (h g s t : ℤ) → pos 0 ≤ℤ h → pos 0 ≤ℤ g → pos 0 ≤ℤ s → pos 0 ≤ℤ t → pos 0 ≤ℤ mix h g s t
+mix_nonneg h g s t h_sign g_sign s_sign t_sign =
+    let p = times_nonneg h s h_sign s_sign in
+    let q = times_nonneg g t g_sign t_sign in
+    omega (arith, ints)
+
 pub square_le : (a b : ℤ) → pos 0 ≤ℤ a → a ≤ℤ b → (a *ℤ a) ≤ℤ (b *ℤ b)
 square_le a b h k = times_mono a b a b h k h k
 
