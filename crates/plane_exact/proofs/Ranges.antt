@@ -5,6 +5,7 @@ use Rattle.std.proofs.lemmas.Int.{ints, to_z-of_z}
 use Rattle.integer_algebra.proofs.Order.{IsWithin, product_within}
 use Rattle.plane_exact.specs.Plane.{IsCoordinate}
 use Rattle.plane_exact.specs.Product.{IsDifference, IsProduct}
+use Rattle.plane_exact.specs.declared.product.Offset.{Offset}
 
 -- a number that went to 32 or 64 bits and is read again
 abbrev pub narrow : ℤ → ℤ
@@ -48,7 +49,7 @@ pub record IsTimes (a b s : ℤ) : Type 0 where
 within : (a : ℤ) → IsDifference a → IsWithin (pos 65535) a
 within a on = record { low = omega (arith, ints); high = on.high }
 
-pub times_is : (a b : ℤ) → IsDifference a → IsDifference b → IsTimes a b (wide (wide a *ℤ wide b))
+times_is : (a b : ℤ) → IsDifference a → IsDifference b → IsTimes a b (wide (wide a *ℤ wide b))
 times_is a b on_a on_b =
     let bounds : IsWithin (pos 4294836225) (a *ℤ b) = product_within (pos 65535) (pos 65535) a b (within a on_a) (within b on_b) in
     let low = bounds.low in
@@ -68,17 +69,17 @@ summed t z e on =
     let fits : FitsSigned w64 t = omega (arith, ints) in
     subst (IsSum t) (sym e) (record { fits = fits; value = wide_is t fits; range = subst IsProduct (sym (wide_is t fits)) on })
 
-pub minus_is : (a b c d y z : ℤ) → IsTimes a b y → IsTimes c d z → IsSum (a *ℤ b -ℤ c *ℤ d) (y -ℤ z)
-minus_is a b c d y z p q =
-    let same_y = p.value in
-    let same_z = q.value in
-    summed (a *ℤ b -ℤ c *ℤ d) (y -ℤ z) (omega (arith, ints)) (record { low = omega (arith, ints); high = omega (arith, ints) })
+pub cross_is : (u v : Offset) → IsSum (u.x *ℤ v.y -ℤ u.y *ℤ v.x) (wide (wide u.x *ℤ wide v.y) -ℤ wide (wide u.y *ℤ wide v.x))
+cross_is u v =
+    let p = times_is u.x v.y u.across v.up in
+    let q = times_is u.y v.x u.up v.across in
+    summed _ _ (ap₂ (λ y z. y -ℤ z) p.value q.value) (record { low = omega (arith, ints); high = omega (arith, ints) })
 
-pub plus_is : (a b c d y z : ℤ) → IsTimes a b y → IsTimes c d z → IsSum (a *ℤ b +ℤ c *ℤ d) (y +ℤ z)
-plus_is a b c d y z p q =
-    let same_y = p.value in
-    let same_z = q.value in
-    summed (a *ℤ b +ℤ c *ℤ d) (y +ℤ z) (omega (arith, ints)) (record { low = omega (arith, ints); high = omega (arith, ints) })
+pub dot_is : (u v : Offset) → IsSum (u.x *ℤ v.x +ℤ u.y *ℤ v.y) (wide (wide u.x *ℤ wide v.x) +ℤ wide (wide u.y *ℤ wide v.y))
+dot_is u v =
+    let p = times_is u.x v.x u.across v.across in
+    let q = times_is u.y v.y u.up v.up in
+    summed _ _ (ap₂ (λ y z. y +ℤ z) p.value q.value) (record { low = omega (arith, ints); high = omega (arith, ints) })
 
 -- the code's test that a product is at most 0, passed or failed
 pub not_above : (r d : ℤ) → IsProduct r → r ≡ d → int_le (wide r) (pos 0) ≡ true → d ≤ℤ pos 0
