@@ -27,40 +27,51 @@ shorter F P L h e k = by_lt_z L P
     absurd (omega (arith, ints)))
     (λ l. l)
 
+-- where its cross product with d is 0, f is (d·f / d·d) d
+pub foot : (dx dy fx fy : ℤ) → dx *ℤ fy -ℤ dy *ℤ fx ≡ pos 0
+    → ((dx *ℤ dx +ℤ dy *ℤ dy) *ℤ fx ≡ (dx *ℤ fx +ℤ dy *ℤ fy) *ℤ dx) × ((dx *ℤ dx +ℤ dy *ℤ dy) *ℤ fy ≡ (dx *ℤ fx +ℤ dy *ℤ fy) *ℤ dy)
+foot dx dy fx fy level =
+    let none : (z : ℤ) → z *ℤ (dx *ℤ fy -ℤ dy *ℤ fx) ≡ pos 0 = (λ z. ap (λ t. z *ℤ t) level ∙ times_zero z) in
+    let none_x = none dx in
+    let none_y = none dy in
+    let xs = dx ∷ dy ∷ fx ∷ fy ∷ [] in
+    let l = V 0 ⊗ V 0 ⊕ V 1 ⊗ V 1 in
+    let p = V 0 ⊗ V 2 ⊕ V 1 ⊗ V 3 in
+    let t = V 0 ⊗ V 3 ⊖ V 1 ⊗ V 2 in
+    let across = ring xs (l ⊗ V 2) (p ⊗ V 0 ⊖ V 1 ⊗ t) tt in
+    let up = ring xs (l ⊗ V 3) (p ⊗ V 1 ⊕ V 0 ⊗ t) tt in
+    (omega (arith, ints), omega (arith, ints))
+
 module _ (fx fy dx dy : ℤ) where
-  part_of : dx *ℤ fy -ℤ dy *ℤ fx ≡ pos 0 → (fx *ℤ fx +ℤ fy *ℤ fy) ≤ℤ (fx *ℤ dx +ℤ fy *ℤ dy) → IsPart fx fy dx dy
+  part_of : dx *ℤ fy -ℤ dy *ℤ fx ≡ pos 0 → (fx *ℤ fx +ℤ fy *ℤ fy) ≤ℤ (dx *ℤ fx +ℤ dy *ℤ fy) → IsPart fx fy dx dy
   part_of level near =
       let F = fx *ℤ fx +ℤ fy *ℤ fy in
-      let P = fx *ℤ dx +ℤ fy *ℤ dy in
+      let P = dx *ℤ fx +ℤ dy *ℤ fy in
       let L = dx *ℤ dx +ℤ dy *ℤ dy in
       let T = dx *ℤ fy -ℤ dy *ℤ fx in
       let xs = fx ∷ fy ∷ dx ∷ dy ∷ [] in
       let f = V 0 ⊗ V 0 ⊕ V 1 ⊗ V 1 in
-      let g = V 0 ⊗ V 2 ⊕ V 1 ⊗ V 3 in
+      let p = V 2 ⊗ V 0 ⊕ V 3 ⊗ V 1 in
       let l = V 2 ⊗ V 2 ⊕ V 3 ⊗ V 3 in
       let t = V 2 ⊗ V 1 ⊖ V 3 ⊗ V 0 in
       let f_nonneg : pos 0 ≤ℤ F = (let p = square_nonneg fx in let q = square_nonneg fy in omega (arith, ints)) in
       let l_nonneg : pos 0 ≤ℤ L = (let p = square_nonneg dx in let q = square_nonneg dy in omega (arith, ints)) in
       by_lt_z (pos 0) L
       (λ long.
-      let none_x : dy *ℤ T ≡ pos 0 = ap (λ z. dy *ℤ z) level ∙ times_zero dy in
-      let none_y : dx *ℤ T ≡ pos 0 = ap (λ z. dx *ℤ z) level ∙ times_zero dx in
       let none : T *ℤ T ≡ pos 0 = ap (λ z. T *ℤ z) level ∙ times_zero T in
-      let foot_x = ring xs (l ⊗ V 0) (g ⊗ V 2 ⊖ V 3 ⊗ t) tt in
-      let foot_y = ring xs (l ⊗ V 1) (g ⊗ V 3 ⊕ V 2 ⊗ t) tt in
-      let squares = ring xs (f ⊗ l) (g ⊗ g ⊕ t ⊗ t) tt in
+      let squares = ring xs (f ⊗ l) (p ⊗ p ⊕ t ⊗ t) tt in
       record {
         k = P;
         n = L;
         start = omega (arith, ints);
         finish = shorter F P L l_nonneg (omega (arith, ints)) near;
         some = omega (arith, ints);
-        across = omega (arith, ints);
-        up = omega (arith, ints);
+        across = (foot dx dy fx fy level).0;
+        up = (foot dx dy fx fy level).1;
       })
       (λ short.
       let no_way = squares_zero dx dy short in
-      let flat : P ≡ pos 0 = ap₂ (λ x y. fx *ℤ x +ℤ fy *ℤ y) no_way.0 no_way.1 ∙ ring xs (V 0 ⊗ K (pos 0) ⊕ V 1 ⊗ K (pos 0)) (K (pos 0)) tt in
+      let flat = ap₂ (λ x y. x *ℤ fx +ℤ y *ℤ fy) no_way.0 no_way.1 in
       let at_start = squares_zero fx fy (omega (arith, ints)) in
       let at_x = at_start.0 in
       let at_y = at_start.1 in
@@ -85,7 +96,7 @@ module _ (fx fy dx dy : ℤ) where
       ∙ ap₂ (λ x y. dx *ℤ y -ℤ dy *ℤ x) part.across part.up
       ∙ ring xs (V 2 ⊗ (V 4 ⊗ V 3) ⊖ V 3 ⊗ (V 4 ⊗ V 2)) (V 5 ⊗ K (pos 0)) tt)
 
-  near_of : IsPart fx fy dx dy → (fx *ℤ fx +ℤ fy *ℤ fy -ℤ (fx *ℤ dx +ℤ fy *ℤ dy)) ≤ℤ pos 0
+  near_of : IsPart fx fy dx dy → (fx *ℤ fx +ℤ fy *ℤ fy -ℤ (dx *ℤ fx +ℤ dy *ℤ fy)) ≤ℤ pos 0
   near_of part =
       let k = part.k in
       let n = part.n in
@@ -98,8 +109,8 @@ module _ (fx fy dx dy : ℤ) where
       let less : (k *ℤ (k -ℤ n)) ≤ℤ pos 0 = times_nonpos k (k -ℤ n) start (omega (arith, ints)) in
       let below : (L *ℤ (k *ℤ (k -ℤ n))) ≤ℤ pos 0 = times_nonpos L (k *ℤ (k -ℤ n)) l_nonneg less in
       let xs = fx ∷ fy ∷ dx ∷ dy ∷ k ∷ n ∷ [] in
-      let is : (n *ℤ n) *ℤ (fx *ℤ fx +ℤ fy *ℤ fy -ℤ (fx *ℤ dx +ℤ fy *ℤ dy)) ≡ L *ℤ (k *ℤ (k -ℤ n)) =
-      ring xs ((V 5 ⊗ V 5) ⊗ (V 0 ⊗ V 0 ⊕ V 1 ⊗ V 1 ⊖ (V 0 ⊗ V 2 ⊕ V 1 ⊗ V 3)))
+      let is : (n *ℤ n) *ℤ (fx *ℤ fx +ℤ fy *ℤ fy -ℤ (dx *ℤ fx +ℤ dy *ℤ fy)) ≡ L *ℤ (k *ℤ (k -ℤ n)) =
+      ring xs ((V 5 ⊗ V 5) ⊗ (V 0 ⊗ V 0 ⊕ V 1 ⊗ V 1 ⊖ (V 2 ⊗ V 0 ⊕ V 3 ⊗ V 1)))
       ((V 5 ⊗ V 0) ⊗ (V 5 ⊗ V 0 ⊖ V 5 ⊗ V 2) ⊕ (V 5 ⊗ V 1) ⊗ (V 5 ⊗ V 1 ⊖ V 5 ⊗ V 3)) tt
       ∙ ap₂ (λ x y. x *ℤ (x -ℤ n *ℤ dx) +ℤ y *ℤ (y -ℤ n *ℤ dy)) part.across part.up
       ∙ ring xs ((V 4 ⊗ V 2) ⊗ (V 4 ⊗ V 2 ⊖ V 5 ⊗ V 2) ⊕ (V 4 ⊗ V 3) ⊗ (V 4 ⊗ V 3 ⊖ V 5 ⊗ V 3))
@@ -134,11 +145,11 @@ module _ (a b p : GridPoint) where
   }
 
   -- what the dot product of the ways from p to both ends is
-  facing : dot_of p a b ≡ (p.x -ℤ a.x) *ℤ (p.x -ℤ a.x) +ℤ (p.y -ℤ a.y) *ℤ (p.y -ℤ a.y) -ℤ ((p.x -ℤ a.x) *ℤ (b.x -ℤ a.x) +ℤ (p.y -ℤ a.y) *ℤ (b.y -ℤ a.y))
+  facing : dot_of p a b ≡ (p.x -ℤ a.x) *ℤ (p.x -ℤ a.x) +ℤ (p.y -ℤ a.y) *ℤ (p.y -ℤ a.y) -ℤ ((b.x -ℤ a.x) *ℤ (p.x -ℤ a.x) +ℤ (b.y -ℤ a.y) *ℤ (p.y -ℤ a.y))
   facing =
       let fx = V 0 ⊖ V 2 in
       let fy = V 1 ⊖ V 3 in
-      ring (p.x ∷ p.y ∷ a.x ∷ a.y ∷ b.x ∷ b.y ∷ []) ((V 2 ⊖ V 0) ⊗ (V 4 ⊖ V 0) ⊕ (V 3 ⊖ V 1) ⊗ (V 5 ⊖ V 1)) (fx ⊗ fx ⊕ fy ⊗ fy ⊖ (fx ⊗ (V 4 ⊖ V 2) ⊕ fy ⊗ (V 5 ⊖ V 3))) tt
+      ring (p.x ∷ p.y ∷ a.x ∷ a.y ∷ b.x ∷ b.y ∷ []) ((V 2 ⊖ V 0) ⊗ (V 4 ⊖ V 0) ⊕ (V 3 ⊖ V 1) ⊗ (V 5 ⊖ V 1)) (fx ⊗ fx ⊕ fy ⊗ fy ⊖ ((V 4 ⊖ V 2) ⊗ fx ⊕ (V 5 ⊖ V 3) ⊗ fy)) tt
 
   pub on_segment : cross_of a b p ≡ pos 0 → dot_of p a b ≤ℤ pos 0 → IsBetween a b (rational p)
   on_segment level near =

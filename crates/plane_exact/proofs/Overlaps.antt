@@ -7,6 +7,7 @@ use Rattle.plane_exact.specs.Plane.{GridPoint, RationalPoint, rational}
 use Rattle.plane_exact.specs.Product.{cross_of, dot_of}
 use Rattle.plane_exact.specs.Meet.{IsSame, IsCommon, IsEndOfBoth, HasOne, HasMore}
 use Rattle.plane_exact.specs.declared.point.Seg.{Seg}
+use Rattle.plane_exact.proofs.Collinear.{foot}
 use Rattle.plane_exact.proofs.Places.{at, IsAt, between, by_feet, same_place, IsDirection, direction_of, at_end}
 
 -- a way along which two points differ is some way
@@ -53,17 +54,9 @@ from_feet k n l m L u v start finish some_m some_n h e =
     record { low = cancel_le m _ _ (omega (arith, ints)) (omega (arith, ints)); high = cancel_le m _ _ (omega (arith, ints)) (omega (arith, ints)) }
 
 -- the way to a point of the line, by its foot
-pub foot_across : (s : Seg) (p : GridPoint) → cross_of s.a s.b p ≡ pos 0 → dot_of s.a s.b s.b *ℤ (p.x -ℤ s.a.x) ≡ dot_of s.a s.b p *ℤ (s.b.x -ℤ s.a.x)
-foot_across s p level =
-    let none : (s.b.y -ℤ s.a.y) *ℤ cross_of s.a s.b p ≡ pos 0 = ap (λ z. (s.b.y -ℤ s.a.y) *ℤ z) level ∙ times_zero (s.b.y -ℤ s.a.y) in
-    let e = ring ((s.b.x -ℤ s.a.x) ∷ (s.b.y -ℤ s.a.y) ∷ (p.x -ℤ s.a.x) ∷ (p.y -ℤ s.a.y) ∷ []) ((V 0 ⊗ V 0 ⊕ V 1 ⊗ V 1) ⊗ V 2) ((V 0 ⊗ V 2 ⊕ V 1 ⊗ V 3) ⊗ V 0 ⊖ V 1 ⊗ (V 0 ⊗ V 3 ⊖ V 1 ⊗ V 2)) tt in
-    omega (arith, ints)
-
-pub foot_up : (s : Seg) (p : GridPoint) → cross_of s.a s.b p ≡ pos 0 → dot_of s.a s.b s.b *ℤ (p.y -ℤ s.a.y) ≡ dot_of s.a s.b p *ℤ (s.b.y -ℤ s.a.y)
-foot_up s p level =
-    let none : (s.b.x -ℤ s.a.x) *ℤ cross_of s.a s.b p ≡ pos 0 = ap (λ z. (s.b.x -ℤ s.a.x) *ℤ z) level ∙ times_zero (s.b.x -ℤ s.a.x) in
-    let e = ring ((s.b.x -ℤ s.a.x) ∷ (s.b.y -ℤ s.a.y) ∷ (p.x -ℤ s.a.x) ∷ (p.y -ℤ s.a.y) ∷ []) ((V 0 ⊗ V 0 ⊕ V 1 ⊗ V 1) ⊗ V 3) ((V 0 ⊗ V 2 ⊕ V 1 ⊗ V 3) ⊗ V 1 ⊕ V 0 ⊗ (V 0 ⊗ V 3 ⊖ V 1 ⊗ V 2)) tt in
-    omega (arith, ints)
+pub foot_of : (s : Seg) (p : GridPoint) → cross_of s.a s.b p ≡ pos 0
+    → (dot_of s.a s.b s.b *ℤ (p.x -ℤ s.a.x) ≡ dot_of s.a s.b p *ℤ (s.b.x -ℤ s.a.x)) × (dot_of s.a s.b s.b *ℤ (p.y -ℤ s.a.y) ≡ dot_of s.a s.b p *ℤ (s.b.y -ℤ s.a.y))
+foot_of s p level = foot (s.b.x -ℤ s.a.x) (s.b.y -ℤ s.a.y) (p.x -ℤ s.a.x) (p.y -ℤ s.a.y) level
 
 module _ (s t : Seg) (start_level : cross_of s.a s.b t.a ≡ pos 0) (finish_level : cross_of s.a s.b t.b ≡ pos 0) (forward : dot_of s.a s.b t.a <ℤ dot_of s.a s.b t.b) where
   long : pos 1 ≤ℤ dot_of s.a s.b s.b
@@ -77,8 +70,8 @@ module _ (s t : Seg) (start_level : cross_of s.a s.b t.a ≡ pos 0) (finish_leve
 
   end_place : (p : GridPoint) → cross_of s.a s.b p ≡ pos 0 → IsSame (place (dot_of s.a s.b p)) (rational p)
   end_place p level = record {
-    across = end_there (dot_of s.a s.b s.b) (dot_of s.a s.b p) s.a.x (s.b.x -ℤ s.a.x) p.x (foot_across s p level);
-    up = end_there (dot_of s.a s.b s.b) (dot_of s.a s.b p) s.a.y (s.b.y -ℤ s.a.y) p.y (foot_up s p level);
+    across = end_there (dot_of s.a s.b s.b) (dot_of s.a s.b p) s.a.x (s.b.x -ℤ s.a.x) p.x (foot_of s p level).0;
+    up = end_there (dot_of s.a s.b s.b) (dot_of s.a s.b p) s.a.y (s.b.y -ℤ s.a.y) p.y (foot_of s p level).1;
   }
 
   -- k is along both
@@ -100,8 +93,8 @@ module _ (s t : Seg) (start_level : cross_of s.a s.b t.a ≡ pos 0) (finish_leve
           start = omega (arith, ints);
           finish = omega (arith, ints);
           some = omega (arith, ints);
-          across = laid (dot_of s.a s.b s.b) (dot_of s.a s.b t.a) (dot_of s.a s.b t.b) k s.a.x s.b.x t.a.x t.b.x (foot_across s t.a start_level) (foot_across s t.b finish_level);
-          up = laid (dot_of s.a s.b s.b) (dot_of s.a s.b t.a) (dot_of s.a s.b t.b) k s.a.y s.b.y t.a.y t.b.y (foot_up s t.a start_level) (foot_up s t.b finish_level);
+          across = laid (dot_of s.a s.b s.b) (dot_of s.a s.b t.a) (dot_of s.a s.b t.b) k s.a.x s.b.x t.a.x t.b.x (foot_of s t.a start_level).0 (foot_of s t.b finish_level).0;
+          up = laid (dot_of s.a s.b s.b) (dot_of s.a s.b t.a) (dot_of s.a s.b t.b) k s.a.y s.b.y t.a.y t.b.y (foot_of s t.a start_level).1 (foot_of s t.b finish_level).1;
         };
       }
 
@@ -138,39 +131,32 @@ module _ (s t : Seg) (start_level : cross_of s.a s.b t.a ≡ pos 0) (finish_leve
       let q = times_lt on.first.n (dot_of s.a s.b s.b) (dot_of s.a s.b t.a) (omega (arith, ints)) h in
       omega (arith, ints)
 
+  -- each common point is at this one place
+  one_at : (k : ℤ) → IsAlong k → ((v : RationalPoint) (on : IsCommon s t v) → on.first.k *ℤ dot_of s.a s.b s.b ≡ on.first.n *ℤ k)
+      → IsEndOfBoth s t (place k) → HasOne s t (IsEndOfBoth s t)
+  one_at k along here ends = record { point = place k; common = common k along; only = (λ v on. same_place s.a s.b v on.first _ _ long (here v on)); these = ends }
+
   pub one_at_start : dot_of s.a s.b t.b ≡ pos 0 → HasOne s t (IsEndOfBoth s t)
   one_at_start h =
       let some = long in
-      record {
-        point = place (dot_of s.a s.b t.b);
-        common = common (dot_of s.a s.b t.b) (record { start = omega (arith, ints); finish = omega (arith, ints); after = omega (arith, ints); before = omega (arith, ints) });
-        only = (λ v on.
-            let high = (within v on).high in
-            let p = from_start v on in
-            let e : on.first.n *ℤ dot_of s.a s.b t.b ≡ pos 0 = ap (λ z. on.first.n *ℤ z) h ∙ times_zero on.first.n in
-            same_place s.a s.b v on.first _ _ long (omega (arith, ints)));
-        these = (
-          at_end s.a s.b _ (place (dot_of s.a s.b t.b)) (on_first (dot_of s.a s.b t.b)) (inl h),
-          inr (end_place t.b finish_level),
-        );
-      }
+      one_at (dot_of s.a s.b t.b) (record { start = omega (arith, ints); finish = omega (arith, ints); after = omega (arith, ints); before = omega (arith, ints) })
+      (λ v on.
+      let high = (within v on).high in
+      let p = from_start v on in
+      let e = ap (λ z. on.first.n *ℤ z) h in
+      omega (arith, ints))
+      (at_end s.a s.b _ (place (dot_of s.a s.b t.b)) (on_first (dot_of s.a s.b t.b)) (inl h), inr (end_place t.b finish_level))
 
   pub one_at_finish : dot_of s.a s.b t.a ≡ dot_of s.a s.b s.b → HasOne s t (IsEndOfBoth s t)
   one_at_finish h =
       let some = long in
-      record {
-        point = place (dot_of s.a s.b t.a);
-        common = common (dot_of s.a s.b t.a) (record { start = omega (arith, ints); finish = omega (arith, ints); after = omega (arith, ints); before = omega (arith, ints) });
-        only = (λ v on.
-            let low = (within v on).low in
-            let p = to_finish v on in
-            let e : on.first.n *ℤ dot_of s.a s.b t.a ≡ on.first.n *ℤ dot_of s.a s.b s.b = ap (λ z. on.first.n *ℤ z) h in
-            same_place s.a s.b v on.first _ _ long (omega (arith, ints)));
-        these = (
-          at_end s.a s.b _ (place (dot_of s.a s.b t.a)) (on_first (dot_of s.a s.b t.a)) (inr h),
-          inl (end_place t.a start_level),
-        );
-      }
+      one_at (dot_of s.a s.b t.a) (record { start = omega (arith, ints); finish = omega (arith, ints); after = omega (arith, ints); before = omega (arith, ints) })
+      (λ v on.
+      let low = (within v on).low in
+      let p = to_finish v on in
+      let e = ap (λ z. on.first.n *ℤ z) h in
+      omega (arith, ints))
+      (at_end s.a s.b _ (place (dot_of s.a s.b t.a)) (on_first (dot_of s.a s.b t.a)) (inr h), inl (end_place t.a start_level))
 
   way : IsDirection (s.b.x -ℤ s.a.x) (s.b.y -ℤ s.a.y)
   way = direction_of (s.b.x -ℤ s.a.x) (s.b.y -ℤ s.a.y) (neg_ℤ (s.b.y -ℤ s.a.y)) (s.b.x -ℤ s.a.x) (λ e.

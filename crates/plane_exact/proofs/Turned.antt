@@ -9,7 +9,7 @@ use Rattle.plane_exact.specs.Meet.{IsSame, IsCommon, IsEnd, IsMeet}
 use Rattle.plane_exact.specs.declared.point.Seg.{Seg}
 use Rattle.plane_exact.specs.declared.meet.Meet.{Meet}
 use Rattle.plane_exact.specs.declared.meet.Meet.TheVariants.{Apart, AtEnds, Crosses, Overlaps}
-use Rattle.plane_exact.proofs.Overlaps.{foot_across, foot_up}
+use Rattle.plane_exact.proofs.Overlaps.{foot_of}
 
 turned_coordinate : (n k o z a b : ℤ) → n *ℤ z ≡ o *ℤ (n *ℤ b +ℤ k *ℤ (a -ℤ b)) → n *ℤ z ≡ o *ℤ (n *ℤ a +ℤ (n -ℤ k) *ℤ (b -ℤ a))
 turned_coordinate n k o z a b e = e ∙ ring (n ∷ k ∷ o ∷ a ∷ b ∷ []) (V 2 ⊗ (V 0 ⊗ V 4 ⊕ V 1 ⊗ (V 3 ⊖ V 4))) (V 2 ⊗ (V 0 ⊗ V 3 ⊕ (V 0 ⊖ V 1) ⊗ (V 4 ⊖ V 3))) tt
@@ -71,5 +71,5 @@ long s apart = by_lt_z (pos 0) (dot_of s.a s.b s.b) (λ l. l) (λ short.
 pub feet_differ : (s t : Seg) → s.a ≢ s.b → t.a ≢ t.b → cross_of s.a s.b t.a ≡ pos 0 → cross_of s.a s.b t.b ≡ pos 0 → ¬ (dot_of s.a s.b t.a ≡ dot_of s.a s.b t.b)
 feet_differ s t first second start finish same =
     second (same_point t.a t.b
-    (same_end (dot_of s.a s.b s.b) (dot_of s.a s.b t.a) (dot_of s.a s.b t.b) (s.b.x -ℤ s.a.x) s.a.x t.a.x t.b.x (long s first) same (foot_across s t.a start) (foot_across s t.b finish))
-    (same_end (dot_of s.a s.b s.b) (dot_of s.a s.b t.a) (dot_of s.a s.b t.b) (s.b.y -ℤ s.a.y) s.a.y t.a.y t.b.y (long s first) same (foot_up s t.a start) (foot_up s t.b finish)))
+    (same_end (dot_of s.a s.b s.b) (dot_of s.a s.b t.a) (dot_of s.a s.b t.b) (s.b.x -ℤ s.a.x) s.a.x t.a.x t.b.x (long s first) same (foot_of s t.a start).0 (foot_of s t.b finish).0)
+    (same_end (dot_of s.a s.b s.b) (dot_of s.a s.b t.a) (dot_of s.a s.b t.b) (s.b.y -ℤ s.a.y) s.a.y t.a.y t.b.y (long s first) same (foot_of s t.a start).1 (foot_of s t.b finish).1))
