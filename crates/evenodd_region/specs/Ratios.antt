@@ -3,8 +3,8 @@ use Rattle.std.specs.Prelude.{ℤ, pos, negsuc, ◌≤ℤ◌}
 use Rattle.plane_exact.specs.Plane.{RationalPoint}
 use Rattle.evenodd_region.specs.declared.ratio.RatioPoint.{RatioPoint}
 
-abbrev pub point_of : RatioPoint → RationalPoint
-point_of p = record { x = p.x; y = p.y; over = p.over; positive = p.range.positive }
+abbrev pub rational_of : RatioPoint → RationalPoint
+rational_of p = record { x = p.x; y = p.y; over = p.over; positive = p.range.positive }
 
 -- from -73,727 * 2^30 to 73,727 * 2^30, as the ways from grid points to points near the grid are, times the denominator
 pub record IsWay (z : ℤ) : Type 0 where

@@ -1,10 +1,10 @@
-// The rows of a drawing: which points it holds, by the even-odd rule.
+// Which points a drawing holds, by the even-odd rule over a copy of its edges.
 ghost use Rattle.std.specs.Prelude.{◌≡◌, ◌↔◌, ◌%◌, IsTrue, List, count_by, IfOk};
 ghost use Rattle.plane_exact.specs.Plane.{GridPoint, RationalPoint, rational};
 ghost use Rattle.engrave_model.specs.Drawing.{edges_of};
 ghost use Rattle.engrave_model.specs.Inside.{IsInside, IsOnOutline, is_counted};
 ghost use Rattle.evenodd_region.specs.Lookup.{AreRowsOf, IsPointOf, IsRatio};
-ghost use Rattle.evenodd_region.specs.Ratios.{point_of};
+ghost use Rattle.evenodd_region.specs.Ratios.{rational_of};
 
 use crate::ratio::RatioPoint;
 use crate::sides::{is_edge_counted, is_on_edge};
@@ -58,21 +58,21 @@ pub fn inside_ratio(rows: &Rows, x: i128, y: i128, den: i128) -> bool
 }
 
 fn is_inside_at(edges: &[Seg], p: RatioPoint) -> bool
-    ensures { IsTrue result ↔ IsInside edges.now (point_of p) }
+    ensures { IsTrue result ↔ IsInside edges.now (rational_of p) }
 {
     is_count_odd(edges, p) && !is_on_outline(edges, p)
 }
 
 // Whether an odd number of edges is counted at the point.
 fn is_count_odd(edges: &[Seg], p: RatioPoint) -> bool
-    ensures { IsTrue result ↔ (count_by (is_counted (point_of p)) edges.now % 2 ≡ 1) }
+    ensures { IsTrue result ↔ (count_by (is_counted (rational_of p)) edges.now % 2 ≡ 1) }
 {
     edges.iter().filter(|e| is_edge_counted(**e, p)).count() % 2 == 1
 }
 
 // Whether the point lies on an edge.
 fn is_on_outline(edges: &[Seg], p: RatioPoint) -> bool
-    ensures { IsTrue result ↔ IsOnOutline edges.now (point_of p) }
+    ensures { IsTrue result ↔ IsOnOutline edges.now (rational_of p) }
 {
     edges.iter().any(|e| is_on_edge(*e, p))
 }

@@ -4,7 +4,7 @@ ghost use mir.Syntax.{w128};
 ghost use Rattle.std.specs.Prelude.{◌≡◌, ◌↔◌, ◌+ℤ◌, ◌-ℤ◌, ◌*ℤ◌, FitsSigned, IsTrue};
 ghost use Rattle.plane_exact.specs.Plane.{IsBetween};
 ghost use Rattle.engrave_model.specs.Inside.{is_at_or_below, is_counted};
-ghost use Rattle.evenodd_region.specs.Ratios.{IsWay, point_of};
+ghost use Rattle.evenodd_region.specs.Ratios.{IsWay, rational_of};
 
 use crate::ratio::RatioPoint;
 use plane_exact::point::{Point, Seg};
@@ -51,7 +51,7 @@ impl Way {
 
 // Whether the point is a point of the edge.
 pub(crate) fn is_on_edge(e: Seg, p: RatioPoint) -> bool
-    ensures { IsTrue result ↔ IsBetween e.a e.b (point_of p) }
+    ensures { IsTrue result ↔ IsBetween e.a e.b (rational_of p) }
 {
     let from_a = way_to(p, e.a);
     let from_b = way_to(p, e.b);
@@ -60,14 +60,14 @@ pub(crate) fn is_on_edge(e: Seg, p: RatioPoint) -> bool
 
 // Whether `corner` isn't above the row of `p`.
 fn is_at_or_below(corner: Point, p: RatioPoint) -> bool
-    ensures { result ≡ is_at_or_below corner (point_of p) }
+    ensures { result ≡ is_at_or_below corner (rational_of p) }
 {
     way_to(p, corner).y >= 0
 }
 
 // Whether the edge passes the row of the point strictly to the right of it.
 pub(crate) fn is_edge_counted(e: Seg, p: RatioPoint) -> bool
-    ensures { result ≡ is_counted (point_of p) e }
+    ensures { result ≡ is_counted (rational_of p) e }
 {
     let turn = way_to(p, e.a).cross(way_to(p, e.b));
     match (is_at_or_below(e.a, p), is_at_or_below(e.b, p)) {

@@ -2,13 +2,13 @@
 use Rattle.std.proofs.Common.{◌≡◌, ap, sym, ◌∙◌, pos}
 use Rattle.std.specs.Prelude.{int_lt}
 use Rattle.plane_exact.proofs.Wide.{widest, held}
-use Rattle.evenodd_region.specs.Ratios.{point_of}
+use Rattle.evenodd_region.specs.Ratios.{rational_of}
 use Rattle.evenodd_region.proofs.Scaled.{turn, turn_is, rising_counted, falling_counted}
 use Rattle.evenodd_region.proofs.sides.is_edge_counted.Goals as goal
 
 pub returns-in-true-false : goal.returns-in-true-false
 returns-in-true-false c =
-    let w = point_of c.args.p in
+    let w = rational_of c.args.p in
     let a = c.args.e.a in
     let b = c.args.e.b in
     let is : widest c.cross-turn.result ≡ turn w a b =
@@ -18,7 +18,7 @@ returns-in-true-false c =
 
 pub returns-in-false-true : goal.returns-in-false-true
 returns-in-false-true c =
-    let w = point_of c.args.p in
+    let w = rational_of c.args.p in
     let a = c.args.e.a in
     let b = c.args.e.b in
     let is : widest c.cross-turn.result ≡ turn w a b =

@@ -1,14 +1,14 @@
 -- Answers the goals of `is_on_edge`.
 use Rattle.std.proofs.Common.{◌≡◌, eqb-true, refl, pos}
 use Rattle.plane_exact.proofs.Wide.{widest, held, tested}
-use Rattle.evenodd_region.specs.Ratios.{point_of}
+use Rattle.evenodd_region.specs.Ratios.{rational_of}
 use Rattle.evenodd_region.proofs.Reach.{read_zero, zero_read}
 use Rattle.evenodd_region.proofs.Scaled.{facing, turn_is, facing_is, on_edge, on_its_line, between_its_ends}
 use Rattle.evenodd_region.proofs.sides.is_on_edge.Goals as goal
 
 pub returns-then-cross-eq0 : goal.returns-then-cross-eq0
 returns-then-cross-eq0 c =
-    let w = point_of c.args.p in
+    let w = rational_of c.args.p in
     let a = c.args.e.a in
     let b = c.args.e.b in
     let from_a = c.way_to-from_a.ensures in
@@ -24,7 +24,7 @@ returns-then-cross-eq0 c =
 
 pub returns-else-cross-eq0 : goal.returns-else-cross-eq0
 returns-else-cross-eq0 c =
-    let w = point_of c.args.p in
+    let w = rational_of c.args.p in
     let a = c.args.e.a in
     let b = c.args.e.b in
     let from_a = c.way_to-from_a.ensures in
