@@ -82,11 +82,11 @@ surface_is_safe edges cone mv shallow s w removed =
     absurd (omega (arith, ints))
 
 -- A clear move is a safe move, where the tests that it passes against an edge mean that it spares the edge.
-pub clear_is_safe : (loops : List (List GridPoint)) (cone : Cone) (mv : Move)
+pub clear_is_safe_by : (loops : List (List GridPoint)) (cone : Cone) (mv : Move)
     → ((e : Seg) → PassesEdge cone mv e → IsSpared cone mv e)
     → IsClear (edges_of loops) cone mv → IsSafe (edges_of loops) cone mv
-clear_is_safe loops cone mv spares (inl shallow) = surface_is_safe (edges_of loops) cone mv shallow
-clear_is_safe loops cone mv spares (inr clear) =
+clear_is_safe_by loops cone mv spares (inl shallow) = surface_is_safe (edges_of loops) cone mv shallow
+clear_is_safe_by loops cone mv spares (inr clear) =
     by_test (nat_lt 0 (depth_of mv.from.h)) refl (nat_lt 0 (depth_of mv.to.h)) refl
   where
     deep_is_safe : IsDeep mv → IsSafe (edges_of loops) cone mv

@@ -9,7 +9,7 @@ use Rattle.plane_exact.specs.declared.moves.Move.{Move}
 use Rattle.engrave_model.specs.Clear.{IsClear}
 use Rattle.engrave_model.specs.Drawing.{edges_of}
 use Rattle.engrave_model.specs.Removal.{IsSafe, IsSafeCode}
-use Rattle.evenodd_region.proofs.Sparing.{clear_is_safe as clear_spares}
+use Rattle.evenodd_region.proofs.Sparing.{clear_is_safe_by}
 use Rattle.swept_move.proofs.Swept.{removes_none}
 use Rattle.gouge_checker.specs.Verdict.{IsVerdict}
 use Rattle.gouge_checker.specs.declared.check.Verdict.TheVariants.{Clear}
@@ -17,7 +17,7 @@ use Rattle.gouge_checker.specs.declared.check.Verdict.TheVariants.{Clear}
 module _ (loops : List (List GridPoint)) (cone : Cone) where
   -- the swept law for each edge, and then the parity law
   pub clear_is_safe : (mv : Move) → IsClear (edges_of loops) cone mv → IsSafe (edges_of loops) cone mv
-  clear_is_safe mv clear = clear_spares loops cone mv (λ e passes. removes_none cone mv e passes) clear
+  clear_is_safe mv clear = clear_is_safe_by loops cone mv (λ e passes. removes_none cone mv e passes) clear
 
   -- code whose verdict is `Clear` is safe
   pub clear_code_is_safe : (moves : List LineMove) → IsVerdict (edges_of loops) cone moves Clear → IsSafeCode (edges_of loops) cone moves
