@@ -3,7 +3,7 @@
 -- On each edge the tests at both ends of the path are as even as those of the edge's ends. Round a loop each of its points is
 -- the end of two edges, and so its test drops out.
 use Rattle.std.specs.Prelude.{All, count_by, if◌then◌else◌}
-use Rattle.std.proofs.Common.{◌≡◌, ℕ, ◌+◌, ◌%◌, Bool, true, false, refl, List, [], ◌∷◌, ◌++◌, pos, arith, ap, sym, ◌∙◌, get_or}
+use Rattle.std.proofs.Common.{◌≡◌, ℕ, ◌+◌, ◌%◌, Bool, true, false, refl, List, [], ◌∷◌, ◌++◌, pos, ℤ, ◌+ℤ◌, ◌-ℤ◌, ◌*ℤ◌, arith, ap, sym, ◌∙◌, get_or}
 use Rattle.std.proofs.lemmas.List.{get_or_default}
 use Rattle.std.proofs.lemmas.List.Elements.{All-nil, All-cons, All-head, All-tail}
 use Rattle.std.proofs.lemmas.List.Sums.{sum_by-append, sum_by-cons}
@@ -102,32 +102,36 @@ module _ (v w : RationalPoint) where
       )
       (joined (at_v (edges_of_loop points)) (at_w (edges_of_loop points)) _ _ (loop_even points parts.0) (loops_even loops parts.1))
 
--- the path's ends are points of it
+-- one coordinate of the path's ends, as points of it
+at_start : (v m w o : ℤ) → (pos 1 *ℤ (m *ℤ o)) *ℤ v ≡ m *ℤ ((pos 1 -ℤ pos 0) *ℤ (o *ℤ v) +ℤ pos 0 *ℤ (m *ℤ w))
+at_start v m w o =
+    ring (v ∷ m ∷ w ∷ o ∷ []) ((K (pos 1) ⊗ (V 1 ⊗ V 3)) ⊗ V 0) (V 1 ⊗ ((K (pos 1) ⊖ K (pos 0)) ⊗ (V 3 ⊗ V 0) ⊕ K (pos 0) ⊗ (V 1 ⊗ V 2))) tt
+
+at_end : (v m w o : ℤ) → (pos 1 *ℤ (m *ℤ o)) *ℤ w ≡ o *ℤ ((pos 1 -ℤ pos 1) *ℤ (o *ℤ v) +ℤ pos 1 *ℤ (m *ℤ w))
+at_end v m w o =
+    ring (v ∷ m ∷ w ∷ o ∷ []) ((K (pos 1) ⊗ (V 1 ⊗ V 3)) ⊗ V 2) (V 3 ⊗ ((K (pos 1) ⊖ K (pos 1)) ⊗ (V 3 ⊗ V 0) ⊕ K (pos 1) ⊗ (V 1 ⊗ V 2))) tt
+
 module _ (v w : RationalPoint) where
-  pub starts_path : IsOnPath v w v
+  starts_path : IsOnPath v w v
   starts_path = record {
     k = pos 0;
     n = pos 1;
     start = record { le = tt };
     finish = record { le = tt };
     some = record { le = tt };
-    across = ring (v.x ∷ v.over ∷ w.x ∷ w.over ∷ [])
-        ((K (pos 1) ⊗ (V 1 ⊗ V 3)) ⊗ V 0) (V 1 ⊗ ((K (pos 1) ⊖ K (pos 0)) ⊗ (V 3 ⊗ V 0) ⊕ K (pos 0) ⊗ (V 1 ⊗ V 2))) tt;
-    up = ring (v.y ∷ v.over ∷ w.y ∷ w.over ∷ [])
-        ((K (pos 1) ⊗ (V 1 ⊗ V 3)) ⊗ V 0) (V 1 ⊗ ((K (pos 1) ⊖ K (pos 0)) ⊗ (V 3 ⊗ V 0) ⊕ K (pos 0) ⊗ (V 1 ⊗ V 2))) tt;
+    across = at_start v.x v.over w.x w.over;
+    up = at_start v.y v.over w.y w.over;
   }
 
-  pub ends_path : IsOnPath v w w
+  ends_path : IsOnPath v w w
   ends_path = record {
     k = pos 1;
     n = pos 1;
     start = record { le = tt };
     finish = record { le = tt };
     some = record { le = tt };
-    across = ring (v.x ∷ v.over ∷ w.x ∷ w.over ∷ [])
-        ((K (pos 1) ⊗ (V 1 ⊗ V 3)) ⊗ V 2) (V 3 ⊗ ((K (pos 1) ⊖ K (pos 1)) ⊗ (V 3 ⊗ V 0) ⊕ K (pos 1) ⊗ (V 1 ⊗ V 2))) tt;
-    up = ring (v.y ∷ v.over ∷ w.y ∷ w.over ∷ [])
-        ((K (pos 1) ⊗ (V 1 ⊗ V 3)) ⊗ V 2) (V 3 ⊗ ((K (pos 1) ⊖ K (pos 1)) ⊗ (V 3 ⊗ V 0) ⊕ K (pos 1) ⊗ (V 1 ⊗ V 2))) tt;
+    across = at_end v.x v.over w.x w.over;
+    up = at_end v.y v.over w.y w.over;
   }
 
   each_off : (edges : List Seg) → IsPathFree edges v w → All (λ e. IsPathOff e v w) edges
