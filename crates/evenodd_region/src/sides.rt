@@ -1,9 +1,10 @@
 // How an edge lies to a rational point near the grid. All products are of ways times the point's denominator, which
 // stay below 2^47; 128 bits hold them.
 ghost use mir.Syntax.{w128};
-ghost use Rattle.std.specs.Prelude.{◌≡◌, ◌↔◌, ◌+ℤ◌, ◌-ℤ◌, ◌*ℤ◌, FitsSigned, IsTrue};
-ghost use Rattle.plane_exact.specs.Plane.{IsBetween};
+ghost use Rattle.std.specs.Prelude.{◌≡◌, ◌↔◌, ◌+ℤ◌, ◌-ℤ◌, ◌*ℤ◌, pos, ◌≤ℤ◌, FitsSigned, IsTrue};
+ghost use Rattle.plane_exact.specs.Plane.{IsBetween, IsCoordinate};
 ghost use Rattle.engrave_model.specs.Inside.{is_at_or_below, is_counted};
+ghost use Rattle.evenodd_region.specs.Lookup.{IsNearGrid};
 ghost use Rattle.evenodd_region.specs.Ratios.{IsWay, rational_of};
 
 use crate::ratio::RatioPoint;
@@ -18,11 +19,16 @@ struct Way {
     ghost up: { IsWay y },
 }
 
-fn times(a: i128, b: i128) -> i128
-    requires { FitsSigned w128 (a *ℤ b) }
-    ensures { result ≡ a *ℤ b }
+// One coordinate of a way, from the grid's `from` to z / over.
+fn scaled_difference(z: i128, over: i128, from: i32) -> i128
+    requires positive { pos 1 ≤ℤ over }
+    requires small { over ≤ℤ pos 1073741824 }
+    requires near { IsNearGrid z over }
+    requires on { IsCoordinate from }
+    ensures value { result ≡ z -ℤ over *ℤ from }
+    ensures range { IsWay result }
 {
-    a * b
+    z - over * from as i128
 }
 
 fn way_to(p: RatioPoint, from: Point) -> Way
@@ -30,8 +36,8 @@ fn way_to(p: RatioPoint, from: Point) -> Way
     ensures up { result.y ≡ p.y -ℤ p.over *ℤ from.y }
 {
     Way {
-        x: p.x - times(p.over, from.x() as i128),
-        y: p.y - times(p.over, from.y() as i128),
+        x: scaled_difference(p.x, p.over, from.x()),
+        y: scaled_difference(p.y, p.over, from.y()),
     }
 }
 
@@ -39,13 +45,13 @@ impl Way {
     fn cross(self, other: Way) -> i128
         ensures { result ≡ self.x *ℤ other.y -ℤ self.y *ℤ other.x }
     {
-        times(self.x, other.y) - times(self.y, other.x)
+        self.x * other.y - self.y * other.x
     }
 
     fn dot(self, other: Way) -> i128
         ensures { result ≡ self.x *ℤ other.x +ℤ self.y *ℤ other.y }
     {
-        times(self.x, other.x) + times(self.y, other.y)
+        self.x * other.x + self.y * other.y
     }
 }
 
