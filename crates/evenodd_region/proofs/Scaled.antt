@@ -1,7 +1,7 @@
 -- How an edge lies to a rational point, by the ways from its ends to the point: their cross and dot product, times the square
 -- of the point's denominator.
 use Rattle.std.specs.Prelude.{int_lt}
-use Rattle.std.proofs.Common.{◌≡◌, true, false, ℤ, pos, ◌+ℤ◌, ◌-ℤ◌, ◌*ℤ◌, ◌≤ℤ◌, ◌<ℤ◌, [], ◌∷◌, arith, sym, subst, ap₂, ◌∙◌}
+use Rattle.std.proofs.Common.{◌≡◌, true, false, ℤ, pos, ◌+ℤ◌, ◌-ℤ◌, ◌*ℤ◌, ◌≤ℤ◌, ◌<ℤ◌, [], ◌∷◌, arith, sym, subst, ◌∙◌}
 use Rattle.std.proofs.lemmas.Int.{ints}
 use Rattle.integer_algebra.proofs.Ring.{ring, V, K, ◌⊕◌, ◌⊖◌, ◌⊗◌}
 use Rattle.integer_algebra.proofs.Order.{cancel_lt, sign_of_pos, sign_of_nonpos, sign_of_nonneg, sign_of_negative}
@@ -10,25 +10,7 @@ use Rattle.plane_exact.specs.Product.{cross_of, dot_of}
 use Rattle.plane_exact.proofs.Collinear.{on_segment, on_line, between_ends}
 use Rattle.engrave_model.specs.Inside.{is_at_or_below, is_counted}
 use Rattle.engrave_model.proofs.Counting.{same_lt}
-
-module _ (w : RationalPoint) (a b : GridPoint) where
-  -- the cross and the dot product of the ways from a and from b to w
-  abbrev pub turn : ℤ
-  turn = (w.x -ℤ w.over *ℤ a.x) *ℤ (w.y -ℤ w.over *ℤ b.y) -ℤ (w.y -ℤ w.over *ℤ a.y) *ℤ (w.x -ℤ w.over *ℤ b.x)
-
-  abbrev pub facing : ℤ
-  facing = (w.x -ℤ w.over *ℤ a.x) *ℤ (w.x -ℤ w.over *ℤ b.x) +ℤ (w.y -ℤ w.over *ℤ a.y) *ℤ (w.y -ℤ w.over *ℤ b.y)
-
-  -- the same by the numbers that the code has
-  pub turn_is : (r ax ay bx by : ℤ) → r ≡ ax *ℤ by -ℤ ay *ℤ bx
-      → ax ≡ w.x -ℤ w.over *ℤ a.x → ay ≡ w.y -ℤ w.over *ℤ a.y → bx ≡ w.x -ℤ w.over *ℤ b.x → by ≡ w.y -ℤ w.over *ℤ b.y → r ≡ turn
-  turn_is r ax ay bx by is ax_is ay_is bx_is by_is =
-      is ∙ ap₂ (λ y z. y -ℤ z) (ap₂ (λ y z. y *ℤ z) ax_is by_is) (ap₂ (λ y z. y *ℤ z) ay_is bx_is)
-
-  pub facing_is : (r ax ay bx by : ℤ) → r ≡ ax *ℤ bx +ℤ ay *ℤ by
-      → ax ≡ w.x -ℤ w.over *ℤ a.x → ay ≡ w.y -ℤ w.over *ℤ a.y → bx ≡ w.x -ℤ w.over *ℤ b.x → by ≡ w.y -ℤ w.over *ℤ b.y → r ≡ facing
-  facing_is r ax ay bx by is ax_is ay_is bx_is by_is =
-      is ∙ ap₂ (λ y z. y +ℤ z) (ap₂ (λ y z. y *ℤ z) ax_is bx_is) (ap₂ (λ y z. y *ℤ z) ay_is by_is)
+use Rattle.evenodd_region.specs.Ratios.{turn, facing}
 
 -- ---- a point of the edge: all coordinates times the denominator, it is a grid point
 
@@ -65,8 +47,8 @@ module _ (w : RationalPoint) (a b : GridPoint) where
     up = on.up ∙ sym (between_scaled w.over on.k on.n a.y b.y);
   }
 
-  cross_is : cross_of (scaled w.over a) (scaled w.over b) (numerators w) ≡ turn w a b
-  cross_is =
+  turn_is : cross_of (scaled w.over a) (scaled w.over b) (numerators w) ≡ turn w a b
+  turn_is =
       let ax = V 2 ⊗ V 3 in
       let ay = V 2 ⊗ V 4 in
       let bx = V 2 ⊗ V 5 in
@@ -74,8 +56,8 @@ module _ (w : RationalPoint) (a b : GridPoint) where
       ring (w.x ∷ w.y ∷ w.over ∷ a.x ∷ a.y ∷ b.x ∷ b.y ∷ [])
       ((bx ⊖ ax) ⊗ (V 1 ⊖ ay) ⊖ (by ⊖ ay) ⊗ (V 0 ⊖ ax)) ((V 0 ⊖ ax) ⊗ (V 1 ⊖ by) ⊖ (V 1 ⊖ ay) ⊗ (V 0 ⊖ bx)) tt
 
-  dot_is : dot_of (numerators w) (scaled w.over a) (scaled w.over b) ≡ facing w a b
-  dot_is =
+  facing_is : dot_of (numerators w) (scaled w.over a) (scaled w.over b) ≡ facing w a b
+  facing_is =
       let ax = V 2 ⊗ V 3 in
       let ay = V 2 ⊗ V 4 in
       let bx = V 2 ⊗ V 5 in
@@ -84,13 +66,13 @@ module _ (w : RationalPoint) (a b : GridPoint) where
       ((ax ⊖ V 0) ⊗ (bx ⊖ V 0) ⊕ (ay ⊖ V 1) ⊗ (by ⊖ V 1)) ((V 0 ⊖ ax) ⊗ (V 0 ⊖ bx) ⊕ (V 1 ⊖ ay) ⊗ (V 1 ⊖ by)) tt
 
   pub on_edge : turn w a b ≡ pos 0 → facing w a b ≤ℤ pos 0 → IsBetween a b w
-  on_edge level near = from_scaled (on_segment _ _ _ (cross_is ∙ level) (subst (λ z. z ≤ℤ pos 0) (sym dot_is) near))
+  on_edge level near = from_scaled (on_segment _ _ _ (turn_is ∙ level) (subst (λ z. z ≤ℤ pos 0) (sym facing_is) near))
 
   pub on_its_line : IsBetween a b w → turn w a b ≡ pos 0
-  on_its_line on = sym cross_is ∙ on_line _ _ _ (to_scaled on)
+  on_its_line on = sym turn_is ∙ on_line _ _ _ (to_scaled on)
 
   pub between_its_ends : IsBetween a b w → facing w a b ≤ℤ pos 0
-  between_its_ends on = subst (λ z. z ≤ℤ pos 0) dot_is (between_ends _ _ _ (to_scaled on))
+  between_its_ends on = subst (λ z. z ≤ℤ pos 0) facing_is (between_ends _ _ _ (to_scaled on))
 
 -- ---- the edge is counted
 

@@ -1,6 +1,6 @@
--- Rational points as the code keeps them, and the ways to them.
-use Rattle.std.specs.Prelude.{ℤ, pos, negsuc, ◌≤ℤ◌}
-use Rattle.plane_exact.specs.Plane.{RationalPoint}
+-- Rational points as the code keeps them, the ways to them, and the products of two ways.
+use Rattle.std.specs.Prelude.{ℤ, pos, negsuc, ◌+ℤ◌, ◌-ℤ◌, ◌*ℤ◌, ◌≤ℤ◌}
+use Rattle.plane_exact.specs.Plane.{GridPoint, RationalPoint}
 use Rattle.evenodd_region.specs.declared.ratio.RatioPoint.{RatioPoint}
 
 abbrev pub rational_of : RatioPoint → RationalPoint
@@ -10,3 +10,11 @@ rational_of p = record { x = p.x; y = p.y; over = p.over; positive = p.range.pos
 pub record IsWay (z : ℤ) : Type 0 where
   pub low : negsuc 79163763458047 ≤ℤ z
   pub high : z ≤ℤ pos 79163763458048
+
+-- (w - a) × (w - b), times the square of w's denominator
+abbrev pub turn : RationalPoint → GridPoint → GridPoint → ℤ
+turn w a b = (w.x -ℤ w.over *ℤ a.x) *ℤ (w.y -ℤ w.over *ℤ b.y) -ℤ (w.y -ℤ w.over *ℤ a.y) *ℤ (w.x -ℤ w.over *ℤ b.x)
+
+-- (w - a) · (w - b), times the same
+abbrev pub facing : RationalPoint → GridPoint → GridPoint → ℤ
+facing w a b = (w.x -ℤ w.over *ℤ a.x) *ℤ (w.x -ℤ w.over *ℤ b.x) +ℤ (w.y -ℤ w.over *ℤ a.y) *ℤ (w.y -ℤ w.over *ℤ b.y)

@@ -1,11 +1,10 @@
 // How an edge lies to a rational point near the grid. All products are of ways times the point's denominator, which
 // stay below 2^47; 128 bits hold them.
-ghost use mir.Syntax.{w128};
-ghost use Rattle.std.specs.Prelude.{◌≡◌, ◌↔◌, ◌+ℤ◌, ◌-ℤ◌, ◌*ℤ◌, pos, ◌≤ℤ◌, FitsSigned, IsTrue};
+ghost use Rattle.std.specs.Prelude.{◌≡◌, ◌↔◌, ◌+ℤ◌, ◌-ℤ◌, ◌*ℤ◌, pos, ◌≤ℤ◌, IsTrue};
 ghost use Rattle.plane_exact.specs.Plane.{IsBetween, IsCoordinate};
 ghost use Rattle.engrave_model.specs.Inside.{is_at_or_below, is_counted};
 ghost use Rattle.evenodd_region.specs.Lookup.{IsNearGrid};
-ghost use Rattle.evenodd_region.specs.Ratios.{IsWay, rational_of};
+ghost use Rattle.evenodd_region.specs.Ratios.{IsWay, rational_of, turn, facing};
 
 use crate::ratio::RatioPoint;
 use plane_exact::point::{Point, Seg};
@@ -19,7 +18,7 @@ struct Way {
     ghost up: { IsWay y },
 }
 
-// One coordinate of a way, from the grid's `from` to z / over.
+// One coordinate of a way: from `from` to z / over, times `over`.
 fn scaled_difference(z: i128, over: i128, from: i32) -> i128
     requires positive { pos 1 ≤ℤ over }
     requires small { over ≤ℤ pos 1073741824 }
@@ -55,13 +54,25 @@ impl Way {
     }
 }
 
+// (p - a) × (p - b), times the square of the denominator of p.
+fn turn(p: RatioPoint, a: Point, b: Point) -> i128
+    ensures { result ≡ turn (rational_of p) a b }
+{
+    way_to(p, a).cross(way_to(p, b))
+}
+
+// (p - a) · (p - b), times the same.
+fn facing(p: RatioPoint, a: Point, b: Point) -> i128
+    ensures { result ≡ facing (rational_of p) a b }
+{
+    way_to(p, a).dot(way_to(p, b))
+}
+
 // Whether the point is a point of the edge.
 pub(crate) fn is_on_edge(e: Seg, p: RatioPoint) -> bool
     ensures { IsTrue result ↔ IsBetween e.a e.b (rational_of p) }
 {
-    let from_a = way_to(p, e.a);
-    let from_b = way_to(p, e.b);
-    from_a.cross(from_b) == 0 && from_a.dot(from_b) <= 0
+    turn(p, e.a, e.b) == 0 && facing(p, e.a, e.b) <= 0
 }
 
 // Whether `corner` isn't above the row of `p`.
@@ -75,7 +86,7 @@ fn is_at_or_below(corner: Point, p: RatioPoint) -> bool
 pub(crate) fn is_edge_counted(e: Seg, p: RatioPoint) -> bool
     ensures { result ≡ is_counted (rational_of p) e }
 {
-    let turn = way_to(p, e.a).cross(way_to(p, e.b));
+    let turn = turn(p, e.a, e.b);
     match (is_at_or_below(e.a, p), is_at_or_below(e.b, p)) {
         (true, false) => turn > 0,
         (false, true) => turn < 0,
