@@ -9,8 +9,7 @@
 use Rattle.std.proofs.Common.{◌≡◌, ℤ, pos, ◌+ℤ◌, ◌-ℤ◌, ◌*ℤ◌, ◌≤ℤ◌, ◌<ℤ◌, [], ◌∷◌, arith, ap, ap₂, ◌∙◌}
 use Rattle.std.proofs.lemmas.Int.{ints, by_lt_z}
 use Rattle.integer_algebra.proofs.Ring.{ring, V, K, ◌⊕◌, ◌⊖◌, ◌⊗◌}
-use Rattle.integer_algebra.proofs.Order.{square_nonneg, square_le, times_nonneg, times_pos, times_le, times_lt, times_zero, sign_of_pos}
-use Rattle.swept_move.proofs.Ray.{mix}
+use Rattle.integer_algebra.proofs.Order.{mix, square_nonneg, square_le, times_nonneg, times_pos, times_le, times_lt, times_zero, sign_of_pos}
 
 pub record Pass : Type 0 where
   pub Q : ℤ

@@ -7,8 +7,8 @@
 use Rattle.std.proofs.Common.{◌≡◌, inl, inr, ℤ, pos, ◌-ℤ◌, ◌*ℤ◌, ◌≤ℤ◌, ◌<ℤ◌, neg_ℤ, [], ◌∷◌, List, arith, subst, ap, ◌∙◌}
 use Rattle.std.proofs.lemmas.Int.{ints, by_lt_z}
 use Rattle.integer_algebra.proofs.Ring.{ring, V, M, ◌⊕◌, ◌⊖◌, ◌⊗◌}
-use Rattle.integer_algebra.proofs.Order.{by_sign, times_negative}
-use Rattle.swept_move.proofs.Ray.{Bound, mix, Exit, NearsNone, leave}
+use Rattle.integer_algebra.proofs.Order.{mix, by_sign, times_negative}
+use Rattle.swept_move.proofs.Ray.{Bound, Exit, NearsNone, leave}
 use Rattle.swept_move.proofs.Hits.{Pass, IsHit, away, deep, hit_stays, near_zero, some_over}
 
 -- a moment from the start to the finish, and a point of the edge from a to b

@@ -2,17 +2,14 @@
 use mir.Syntax.{w128}
 use Rattle.std.proofs.Common.{◌≡◌, ◌↔◌, ℕ, ◌≤◌, ℤ, pos, negsuc, ◌+ℤ◌, ◌-ℤ◌, ◌*ℤ◌, ◌≤ℤ◌, ◌<ℤ◌, int_lt, IsTrue, int_le, true, FitsSigned, w32, w64, to_z, [], ◌∷◌, arith, ap₂, sym, subst, refl, ◌∙◌}
 use borrow.Author.Differences.{true_is_lt}
-use Rattle.std.proofs.lemmas.Int.{ints, by_lt_z, to_z-of_z}
+use Rattle.std.proofs.lemmas.Int.{ints, by_lt_z}
 use Rattle.integer_algebra.proofs.Ring.{ring, V, K, ◌⊕◌, ◌⊖◌, ◌⊗◌}
 use Rattle.integer_algebra.proofs.Order.{product_within, times_negative, times_of_nonpos, sign_of_negative}
 use Rattle.plane_exact.specs.Plane.{IsCoordinate}
 use Rattle.plane_exact.specs.Product.{IsProduct}
-use Rattle.plane_exact.proofs.Ranges.{wide, narrow}
+use Rattle.plane_exact.proofs.Ranges.{wide, narrow, wide_is}
 use Rattle.plane_exact.proofs.Wide.{widest, held, tested}
 use Rattle.swept_move.specs.Range.{IsMargin}
-
-wide_is : (z : ℤ) → FitsSigned w64 z → wide z ≡ z
-wide_is z fits = to_z-of_z w64 z fits
 
 pub read_product : (r d : ℤ) → IsProduct r → r ≡ d → wide r ≡ d
 read_product r d range e = omega (arith, ints)

@@ -2,17 +2,14 @@
 --
 -- The way leads from a start in a direction. A bound is at the distance `off` from the start, which isn't negative, and the
 -- direction changes that distance by `by`. After the weights m of the start and k of the direction it is m off + k by.
-use Rattle.std.proofs.Common.{◌≡◌, ◌⊎◌, inl, inr, ℤ, pos, ◌+ℤ◌, ◌*ℤ◌, ◌≤ℤ◌, ◌<ℤ◌, neg_ℤ, [], ◌∷◌, List, arith, ap, ◌∙◌}
+use Rattle.std.proofs.Common.{◌≡◌, ◌⊎◌, inl, inr, ℤ, pos, ◌*ℤ◌, ◌≤ℤ◌, ◌<ℤ◌, neg_ℤ, [], ◌∷◌, List, arith, ap, ◌∙◌}
 use Rattle.std.proofs.lemmas.Int.{ints, by_lt_z}
 use Rattle.integer_algebra.proofs.Ring.{ring, V, K, M, ◌⊕◌, ◌⊖◌, ◌⊗◌}
-use Rattle.integer_algebra.proofs.Order.{times_nonneg, times_nonpos, sign_of_nonneg, sign_of_negative, zero_times}
+use Rattle.integer_algebra.proofs.Order.{mix, mix_nonneg, times_nonneg, times_nonpos, sign_of_nonneg, sign_of_negative, zero_times}
 
 pub record Bound : Type 0 where
   pub off : ℤ
   pub by : ℤ
-
-abbrev pub mix : (m k x y : ℤ) → ℤ
-mix m k x y = m *ℤ x +ℤ k *ℤ y
 
 -- the start is within the bounds
 abbrev pub StartsWithin : List Bound → Type 0
@@ -48,10 +45,7 @@ at_bound x y = ring (x ∷ y ∷ []) (M (V 1) ⊗ V 0 ⊕ V 0 ⊗ V 1) (K (pos 0
 still_within : (m k : ℤ) (bs : List Bound) → pos 0 ≤ℤ m → pos 0 ≤ℤ k → StartsWithin bs → NearsNone bs → IsWithinAt m k bs
 still_within m k [] h l starts nears = tt
 still_within m k (b ∷ bs) h l starts nears =
-    (one b.off b.by starts.0 nears.0, still_within m k bs h l starts.1 nears.1)
-  where
-    one : (x y : ℤ) → pos 0 ≤ℤ x → pos 0 ≤ℤ y → pos 0 ≤ℤ mix m k x y
-    one x y p q = let s = times_nonneg m x h p in let t = times_nonneg k y l q in omega (arith, ints)
+    (mix_nonneg m k b.off b.by h l starts.0 nears.0, still_within m k bs h l starts.1 nears.1)
 
 module _ (m k x y : ℤ) (some : pos 0 <ℤ m) (forth : pos 0 ≤ℤ k) (starts : pos 0 ≤ℤ x) (passed : mix m k x y <ℤ pos 0) where
   start_share : pos 0 ≤ℤ (m *ℤ x)

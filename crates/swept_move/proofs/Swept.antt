@@ -3,7 +3,7 @@
 use Rattle.std.proofs.Common.{◌≡◌, ℤ, pos, ◌+ℤ◌, ◌-ℤ◌, ◌*ℤ◌, ◌≤ℤ◌, ◌<ℤ◌, neg_ℤ, [], ◌∷◌, List, arith, refl, ap, ◌∙◌}
 use Rattle.std.proofs.lemmas.Int.{ints, by_lt_z}
 use Rattle.integer_algebra.proofs.Ring.{ring, Term, V, K, M, ◌⊕◌, ◌⊖◌, ◌⊗◌}
-use Rattle.integer_algebra.proofs.Order.{by_sign, square_nonneg, times_nonneg, times_pos, times_le, times_mono, times_zero, zero_square}
+use Rattle.integer_algebra.proofs.Order.{by_sign, square_nonneg, times_nonneg, times_pos, times_le, times_mono, times_zero, squares_zero}
 use Rattle.std.proofs.Math.IntN.{*ℤ_comm}
 use Rattle.plane_exact.specs.Cone.{Cone}
 use Rattle.plane_exact.specs.Distance.{square}
@@ -72,13 +72,6 @@ guarded_by_tests cone mv e passes =
       b = λ S N place hit. corner_clear cone mv b passes.corner_b S N _ _ place.start place.finish
           (at_b f.x g.x a.x b.x S N) (at_b f.y g.y a.y b.y S N) hit;
     }
-
--- two squares whose sum isn't above 0
-first_zero : (x y : ℤ) → (x *ℤ x +ℤ y *ℤ y) ≤ℤ pos 0 → x ≡ pos 0
-first_zero x y h = zero_square x (let p = square_nonneg x in let q = square_nonneg y in omega (arith, ints))
-
-second_zero : (x y : ℤ) → (x *ℤ x +ℤ y *ℤ y) ≤ℤ pos 0 → y ≡ pos 0
-second_zero x y h = zero_square y (let p = square_nonneg x in let q = square_nonneg y in omega (arith, ints))
 
 -- ---- the level directions
 
@@ -198,6 +191,6 @@ removes_none cone mv e passes s w on removed =
     (beside_x p.ex p.ey p.qx p.qy p.dx p.dy parallel) (beside_y p.ex p.ey p.qx p.qy p.dx p.dy parallel)
     (λ s_none _ _. omega (arith, ints)) (λ within_path _. no_square L (pos 0) refl within_path))
     (λ short. none (pos 0) (pos 1) (pos 0)
-    (alone p.ex p.qx p.dx (first_zero p.dx p.dy short)) (alone p.ey p.qy p.dy (second_zero p.dx p.dy short))
+    (alone p.ex p.qx p.dx (squares_zero p.dx p.dy short).0) (alone p.ey p.qy p.dy (squares_zero p.dx p.dy short).1)
     (λ _ t_none _. omega (arith, ints)) (λ within_path _. no_square (pos 0) (pos 0) refl within_path)))
     (λ above. meet (λ n_none. omega (arith, ints)))
