@@ -10,7 +10,7 @@ use Rattle.gcode_text.specs.Run.{IsBehind, moves_left}
 use Rattle.gcode_text.specs.declared.fault.CodeFault.{CodeFault}
 use Rattle.gcode_text.specs.declared.modal.Position.{Position}
 use Rattle.gcode_text.specs.declared.program.Program.{Program}
-use Rattle.gcode_text.specs.declared.said.Said.{Said}
+use Rattle.gcode_text.specs.declared.block.Block.{Block}
 
 -- the moves so far, and then the later ones
 abbrev after : List LineMove → Result (List LineMove) CodeFault → Result (List LineMove) CodeFault
@@ -28,13 +28,13 @@ length-after : (so_far : List LineMove) (mv : Option LineMove) → length (so_fa
 length-after so_far mv = omega (arith, length-append so_far (and_later mv []))
 
 -- a line without a fault
-takes_line : (units : Units) (line : ℕ) (old : Position) (so_far now : List LineMove) (text : Piece) (lines : List Piece) (said : Said) (mv : Option LineMove) → in_line line (judge_line units line (length so_far) old text.bytes) ≡ Ok (said, mv) → now ≡ so_far ++ and_later mv [] → after so_far (moves_from units line (length so_far) old (text ∷ lines)) ≡ cond said.last (Ok now) (after now (moves_from units (line + 1) (length now) (moved old said) lines))
-takes_line units line old so_far now text lines said mv judged now_is =
-    rw (judged, now_is, length-after so_far mv) (by_last said.last)
+takes_line : (units : Units) (line : ℕ) (old : Position) (so_far now : List LineMove) (text : Piece) (lines : List Piece) (block : Block) (mv : Option LineMove) → in_line line (judge_line units line (length so_far) old text.bytes) ≡ Ok (block, mv) → now ≡ so_far ++ and_later mv [] → after so_far (moves_from units line (length so_far) old (text ∷ lines)) ≡ cond block.last (Ok now) (after now (moves_from units (line + 1) (length now) (moved old block) lines))
+takes_line units line old so_far now text lines block mv judged now_is =
+    rw (judged, now_is, length-after so_far mv) (by_last block.last)
   where
-    by_last : (is_last : Bool) → after so_far (cond is_last (Ok (and_later mv [])) (and_then (moves_from units (line + 1) (length (and_later mv []) + length so_far) (moved old said) lines) (λ later. Ok (and_later mv later)))) ≡ cond is_last (Ok (so_far ++ and_later mv [])) (after (so_far ++ and_later mv []) (moves_from units (line + 1) (length (and_later mv []) + length so_far) (moved old said) lines))
+    by_last : (is_last : Bool) → after so_far (cond is_last (Ok (and_later mv [])) (and_then (moves_from units (line + 1) (length (and_later mv []) + length so_far) (moved old block) lines) (λ later. Ok (and_later mv later)))) ≡ cond is_last (Ok (so_far ++ and_later mv [])) (after (so_far ++ and_later mv []) (moves_from units (line + 1) (length (and_later mv []) + length so_far) (moved old block) lines))
     by_last true = refl
-    by_last false = after-and_later so_far mv (moves_from units (line + 1) (length (and_later mv []) + length so_far) (moved old said) lines)
+    by_last false = after-and_later so_far mv (moves_from units (line + 1) (length (and_later mv []) + length so_far) (moved old block) lines)
 
 -- a text has at most one line more than bytes
 length-with_first : (at byte : ℕ) (parts : List Piece) → length (with_first at byte parts) ≡ length parts
@@ -62,15 +62,15 @@ starts units program text units_is line_is position_is none =
     after_none (Err fault) = refl
 
 -- a line without a fault
-pub goes_on : (old new : Program) (said : Said) (mv : Option LineMove) (text : Piece) (lines : List Piece) → in_line old.line (judge_line old.units old.line (length old.moves.items) old.position text.bytes) ≡ Ok (said, mv) → IsBehind old said mv new → moves_left old (text ∷ lines) ≡ cond said.last (Ok new.moves.items) (moves_left new lines)
-goes_on old new said mv text lines judged behind =
-    rw (behind.units, behind.line, behind.position) (takes_line old.units old.line old.position old.moves.items new.moves.items text lines said mv judged behind.moves)
+pub goes_on : (old new : Program) (block : Block) (mv : Option LineMove) (text : Piece) (lines : List Piece) → in_line old.line (judge_line old.units old.line (length old.moves.items) old.position text.bytes) ≡ Ok (block, mv) → IsBehind old block mv new → moves_left old (text ∷ lines) ≡ cond block.last (Ok new.moves.items) (moves_left new lines)
+goes_on old new block mv text lines judged behind =
+    rw (behind.units, behind.line, behind.position) (takes_line old.units old.line old.position old.moves.items new.moves.items text lines block mv judged behind.moves)
 
--- what a line said last is no part of what comes
-pub behind_same : (old kept new : Program) (said : Said) (mv : Option LineMove) → kept.units ≡ old.units → kept.line ≡ old.line → kept.position ≡ old.position → kept.moves ≡ old.moves → IsBehind kept said mv new → IsBehind old said mv new
-behind_same old kept new said mv units line position moves behind = record {
+-- what the program keeps for its room is no part of what comes
+pub behind_same : (old kept new : Program) (block : Block) (mv : Option LineMove) → kept.units ≡ old.units → kept.line ≡ old.line → kept.position ≡ old.position → kept.moves ≡ old.moves → IsBehind kept block mv new → IsBehind old block mv new
+behind_same old kept new block mv units line position moves behind = record {
   units = behind.units ∙ units;
   line = behind.line ∙ ap (λ n. n + 1) line;
-  position = behind.position ∙ ap (λ place. moved place said) position;
+  position = behind.position ∙ ap (λ place. moved place block) position;
   moves = behind.moves ∙ ap (λ v. v.items ++ and_later mv []) moves;
 }

@@ -1,4 +1,4 @@
--- What a line of code says outside its comments, and the words it consists of.
+-- What stands in a line of code outside its comments, and the words it consists of.
 use Rattle.std.specs.Prelude.{ℕ, ◌-◌, Bool, true, false, ◌&&◌, ◌||◌, if◌then◌else◌, Option, Some, None, List, [], ◌∷◌, option_map, nat_le, ◌==◌}
 use Rattle.std.specs.Char.{is_ascii_digit}
 use Rattle.grid_num.specs.Pieces.{is_blank}
@@ -17,7 +17,7 @@ outside_comments false (byte ∷ rest) =
     if byte == 40 then outside_comments true rest
     else if byte == 59 then Some []
     else if is_blank byte then outside_comments false rest
-    else option_map (λ said. capital byte ∷ said) (outside_comments false rest)
+    else option_map (λ outside. capital byte ∷ outside) (outside_comments false rest)
 
 -- what stands in a letter's place, and the characters of a number that follow it
 pub record Word : Type 0 where
@@ -36,7 +36,7 @@ cut_number (byte ∷ rest) =
     then (byte ∷ (cut_number rest).0, (cut_number rest).1)
     else ([], record { letter = byte; number = (cut_number rest).0 } ∷ (cut_number rest).1)
 
--- the words of what a line says: each is a letter and the longest run of characters of a number behind it
+-- the words of what stands outside comments: each is a letter and the longest run of characters of a number behind it
 abbrev pub line_words : List ℕ → List Word
 line_words [] = []
 line_words (letter ∷ rest) = record { letter = letter; number = (cut_number rest).0 } ∷ (cut_number rest).1

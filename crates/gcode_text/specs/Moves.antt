@@ -6,8 +6,8 @@ use Rattle.grid_num.specs.declared.units.Units.{Units}
 use Rattle.plane_exact.specs.Heights.{GridPlace}
 use Rattle.plane_exact.specs.declared.moves.LineMove.{LineMove}
 use Rattle.gcode_text.specs.Line.{outside_comments, line_words}
-use Rattle.gcode_text.specs.Profile.{nothing_said, judge_words}
-use Rattle.gcode_text.specs.declared.said.Said.{Said}
+use Rattle.gcode_text.specs.Profile.{empty_block, judge_words}
+use Rattle.gcode_text.specs.declared.block.Block.{Block}
 use Rattle.gcode_text.specs.declared.modal.Position.{Position}
 use Rattle.gcode_text.specs.declared.fault.CodeFault.{CodeFault}
 use Rattle.gcode_text.specs.declared.fault.CodeKind.{CodeKind}
@@ -25,14 +25,14 @@ is_percent [] = false
 is_percent (byte ∷ []) = byte == 37
 is_percent (byte ∷ next ∷ rest) = false
 
--- what a line says outside its comments; nothing where that is empty or "%" alone
-abbrev pub words_said : Units → Option (List ℕ) → Result Said CodeKind
-words_said units None = Err kind.OpenComment
-words_said units (Some said) = if is_percent said then Ok nothing_said else judge_words units nothing_said (line_words said)
+-- the block of what stands outside comments, without words where that is empty or "%" alone
+abbrev pub words_block : Units → Option (List ℕ) → Result Block CodeKind
+words_block units None = Err kind.OpenComment
+words_block units (Some outside) = if is_percent outside then Ok empty_block else judge_words units empty_block (line_words outside)
 
-abbrev pub line_said : Units → List ℕ → Result Said CodeKind
-line_said units line =
-    if nat_lt most_line_bytes (length line) then Err kind.LongLine else words_said units (outside_comments false line)
+abbrev pub line_block : Units → List ℕ → Result Block CodeKind
+line_block units line =
+    if nat_lt most_line_bytes (length line) then Err kind.LongLine else words_block units (outside_comments false line)
 
 -- no coordinate is known
 abbrev pub nowhere : Position
@@ -44,8 +44,8 @@ latest old None = old
 latest old (Some new) = Some new
 
 -- after the line's coordinates
-abbrev pub moved : Position → Said → Position
-moved old said = record { x = latest old.x said.x; y = latest old.y said.y; z = latest old.z said.z }
+abbrev pub moved : Position → Block → Position
+moved old block = record { x = latest old.x block.x; y = latest old.y block.y; z = latest old.z block.z }
 
 abbrev pub place_from : Option ℤ → Option ℤ → Option ℤ → Option GridPlace
 place_from (Some x) (Some y) (Some z) = Some (record { at = record { x = x; y = y }; h = z })
@@ -55,8 +55,8 @@ place_from _ _ _ = None
 abbrev pub place_of : Position → Option GridPlace
 place_of position = place_from position.x position.y position.z
 
-abbrev pub names_place : Said → Bool
-names_place said = is_some said.x || is_some said.y || is_some said.z
+abbrev pub names_place : Block → Bool
+names_place block = is_some block.x || is_some block.y || is_some block.z
 
 -- the move from one place to the other, where both are known
 abbrev pub move_between : ℕ → Option GridPlace → Option GridPlace → Option LineMove
@@ -64,8 +64,8 @@ move_between line (Some from) (Some to) = Some (record { line = line; mv = recor
 move_between line _ _ = None
 
 -- the line's move, if its words name a coordinate and all were known before it
-abbrev pub move_of : ℕ → Position → Said → Option LineMove
-move_of line old said = if names_place said then move_between line (place_of old) (place_of (moved old said)) else None
+abbrev pub move_of : ℕ → Position → Block → Option LineMove
+move_of line old block = if names_place block then move_between line (place_of old) (place_of (moved old block)) else None
 
 abbrev pub is_below : Option ℤ → Bool
 is_below None = false
@@ -73,16 +73,16 @@ is_below (Some z) = int_lt z (pos 0)
 
 -- the line's move after so many earlier ones, of which there may be no more than the most: the bit may not be below the
 -- surface before its place was known
-abbrev pub judge_move : ℕ → ℕ → Position → Said → Result (Option LineMove) CodeKind
-judge_move line count old said =
-    if is_below (moved old said).z && not (is_some (place_of old)) then Err kind.Unplaced
-    else if names_place said && is_some (place_of old) && nat_le most_moves count then Err kind.TooMany
-    else Ok (move_of line old said)
+abbrev pub judge_move : ℕ → ℕ → Position → Block → Result (Option LineMove) CodeKind
+judge_move line count old block =
+    if is_below (moved old block).z && not (is_some (place_of old)) then Err kind.Unplaced
+    else if names_place block && is_some (place_of old) && nat_le most_moves count then Err kind.TooMany
+    else Ok (move_of line old block)
 
--- what a line says, and its move
-abbrev pub judge_line : Units → ℕ → ℕ → Position → List ℕ → Result (Said × Option LineMove) CodeKind
+-- the block of a line, and its move
+abbrev pub judge_line : Units → ℕ → ℕ → Position → List ℕ → Result (Block × Option LineMove) CodeKind
 judge_line units line count old text =
-    and_then (line_said units text) (λ said. and_then (judge_move line count old said) (λ mv. Ok (said, mv)))
+    and_then (line_block units text) (λ block. and_then (judge_move line count old block) (λ mv. Ok (block, mv)))
 
 -- the move, if there is one, and then those of the later lines
 abbrev pub and_later : Option LineMove → List LineMove → List LineMove
@@ -99,9 +99,9 @@ abbrev pub moves_from : Units → ℕ → ℕ → Position → List Piece → Re
 moves_from units line count old [] = Ok []
 moves_from units line count old (text ∷ lines) =
     and_then (in_line line (judge_line units line count old text.bytes))
-    (λ (said, mv).
-    if said.last then Ok (and_later mv [])
-    else and_then (moves_from units (line + 1) (length (and_later mv []) + count) (moved old said) lines)
+    (λ (block, mv).
+    if block.last then Ok (and_later mv [])
+    else and_then (moves_from units (line + 1) (length (and_later mv []) + count) (moved old block) lines)
     (λ later. Ok (and_later mv later)))
 
 -- the moves of a text, or its first fault

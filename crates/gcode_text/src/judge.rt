@@ -1,31 +1,31 @@
 // Judges the words of a line in turn, from the left.
 ghost use Rattle.std.specs.Prelude.{◌≡◌, true, false, MatchResult};
 ghost use Rattle.gcode_text.specs.Line.{line_words};
-ghost use Rattle.gcode_text.specs.Profile.{coordinate, height, is_one_of, judge_g, judge_m, judge_other, judge_unused, judge_word, judge_words, nothing_said};
+ghost use Rattle.gcode_text.specs.Profile.{coordinate, empty_block, height, is_one_of, judge_g, judge_m, judge_other, judge_unused, judge_word, judge_words};
 ghost use Rattle.gcode_text.specs.Words.{word_of};
 
+use crate::block::{Block, Height};
 use crate::fault::CodeKind;
-use crate::said::{Height, Said};
 use crate::words::{Word, first_word};
 use grid_num::decimal::Decimal;
 use grid_num::units::Units;
 
-/// What the words of a text without comments and blanks say, or the first fault among them.
-pub fn judge(units: Units, text: &[u8]) -> Result<Said, CodeKind>
-    ensures { result ≡ judge_words units nothing_said (line_words text.now) }
+/// The block of a text without comments and blanks, or the first fault among its words.
+pub fn judge(units: Units, text: &[u8]) -> Result<Block, CodeKind>
+    ensures { result ≡ judge_words units empty_block (line_words text.now) }
 {
-    let mut said = Said::nothing();
+    let mut block = Block::empty();
     let mut rest = text;
     while let Some((word, behind)) = first_word(rest) {
-        said = judged_word(units, said, word)?;
+        block = judged_word(units, block, word)?;
         rest = behind;
     }
-    Ok(said)
+    Ok(block)
 }
 
-// What the line says with one more word.
-fn judged_word(units: Units, said: Said, word: Word<'_>) -> Result<Said, CodeKind>
-    ensures { result ≡ judge_word units said (word_of word.entry) }
+// The block with one more word.
+fn judged_word(units: Units, block: Block, word: Word<'_>) -> Result<Block, CodeKind>
+    ensures { result ≡ judge_word units block (word_of word.entry) }
 {
     if !matches!(
         word.letter,
@@ -35,27 +35,27 @@ fn judged_word(units: Units, said: Said, word: Word<'_>) -> Result<Said, CodeKin
     }
     let number = Decimal::read(word.number).map_err(|_| CodeKind::Number)?;
     match word.letter {
-        b'G' => judged_g(units, said, &number),
-        b'M' => judged_m(said, &number),
-        letter => judged_other(units, said, letter, &number),
+        b'G' => judged_g(units, block, &number),
+        b'M' => judged_m(block, &number),
+        letter => judged_other(units, block, letter, &number),
     }
 }
 
-fn judged_g(units: Units, said: Said, number: &Decimal) -> Result<Said, CodeKind>
-    ensures { result ≡ judge_g units said number.now }
+fn judged_g(units: Units, block: Block, number: &Decimal) -> Result<Block, CodeKind>
+    ensures { result ≡ judge_g units block number.now }
 {
     if is_any(number, &[0, 10]) {
-        if said.motion {
+        if block.motion {
             return Err(CodeKind::Twice);
         }
-        return Ok(Said {
+        return Ok(Block {
             motion: true,
-            ..said
+            ..block
         });
     }
     if number.is_tenths(200) {
         return if units.is_inch() {
-            Ok(said)
+            Ok(block)
         } else {
             Err(CodeKind::Units)
         };
@@ -64,73 +64,76 @@ fn judged_g(units: Units, said: Said, number: &Decimal) -> Result<Said, CodeKind
         return if units.is_inch() {
             Err(CodeKind::Units)
         } else {
-            Ok(said)
+            Ok(block)
         };
     }
     if number.is_tenths(910) {
         return Err(CodeKind::Incremental);
     }
     if is_any(number, &[170, 400, 490, 540, 610, 640, 800, 900, 911, 940]) {
-        return Ok(said);
+        return Ok(block);
     }
     Err(CodeKind::Word)
 }
 
-fn judged_m(said: Said, number: &Decimal) -> Result<Said, CodeKind>
-    ensures { result ≡ judge_m said number.now }
+fn judged_m(block: Block, number: &Decimal) -> Result<Block, CodeKind>
+    ensures { result ≡ judge_m block number.now }
 {
     if is_any(number, &[20, 300]) {
-        return Ok(Said { last: true, ..said });
+        return Ok(Block {
+            last: true,
+            ..block
+        });
     }
     if is_any(number, &[30, 40, 50, 70, 80, 90]) {
-        return Ok(said);
+        return Ok(block);
     }
     Err(CodeKind::Word)
 }
 
-fn judged_other(units: Units, said: Said, letter: u8, number: &Decimal) -> Result<Said, CodeKind>
-    ensures { result ≡ judge_other units said letter number.now }
+fn judged_other(units: Units, block: Block, letter: u8, number: &Decimal) -> Result<Block, CodeKind>
+    ensures { result ≡ judge_other units block letter number.now }
 {
     match letter {
         b'X' => {
-            once(said.x.is_some())?;
+            once(block.x.is_some())?;
             let x = Some(read_coordinate(units, number)?);
-            Ok(Said { x, ..said })
+            Ok(Block { x, ..block })
         }
         b'Y' => {
-            once(said.y.is_some())?;
+            once(block.y.is_some())?;
             let y = Some(read_coordinate(units, number)?);
-            Ok(Said { y, ..said })
+            Ok(Block { y, ..block })
         }
         b'Z' => {
-            once(said.z.is_some())?;
+            once(block.z.is_some())?;
             let z = Some(read_height(units, number)?);
-            Ok(Said { z, ..said })
+            Ok(Block { z, ..block })
         }
-        _ => judged_unused(said, letter),
+        _ => judged_unused(block, letter),
     }
 }
 
 // A word of N, F, S or P, whose number is without effect.
-fn judged_unused(said: Said, letter: u8) -> Result<Said, CodeKind>
-    ensures { result ≡ judge_unused said letter }
+fn judged_unused(block: Block, letter: u8) -> Result<Block, CodeKind>
+    ensures { result ≡ judge_unused block letter }
 {
     match letter {
         b'N' => {
-            once(said.n)?;
-            Ok(Said { n: true, ..said })
+            once(block.n)?;
+            Ok(Block { n: true, ..block })
         }
         b'F' => {
-            once(said.f)?;
-            Ok(Said { f: true, ..said })
+            once(block.f)?;
+            Ok(Block { f: true, ..block })
         }
         b'S' => {
-            once(said.s)?;
-            Ok(Said { s: true, ..said })
+            once(block.s)?;
+            Ok(Block { s: true, ..block })
         }
         _ => {
-            once(said.p)?;
-            Ok(Said { p: true, ..said })
+            once(block.p)?;
+            Ok(Block { p: true, ..block })
         }
     }
 }

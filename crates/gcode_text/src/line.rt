@@ -5,12 +5,12 @@ ghost use Rattle.gcode_text.specs.Line.{capital, outside_comments};
 
 use std::alloc::AllocError;
 
-/// Puts what the line says outside its comments in place of what `said` holds: without blanks, in capitals. False
-/// where a `(` has no `)` behind it in the line.
-pub fn take_outside(line: &[u8], said: &mut Vec<u8>) -> Result<bool, AllocError>
-    ensures { IfOk result (λ is_closed. outside_comments false line.now ≡ (if is_closed then Some said.new.items else None)) }
+/// Puts what stands in the line outside its comments in place of what `outside` holds: without blanks, in capitals.
+/// False where a `(` has no `)` behind it in the line.
+pub fn take_outside(line: &[u8], outside: &mut Vec<u8>) -> Result<bool, AllocError>
+    ensures { IfOk result (λ is_closed. outside_comments false line.now ≡ (if is_closed then Some outside.new.items else None)) }
 {
-    said.clear();
+    outside.clear();
     let mut in_comment = false;
     for byte in line {
         if in_comment {
@@ -20,7 +20,7 @@ pub fn take_outside(line: &[u8], said: &mut Vec<u8>) -> Result<bool, AllocError>
         } else if *byte == b';' {
             return Ok(true);
         } else if !is_blank(*byte) {
-            said.push(as_capital(*byte))?;
+            outside.push(as_capital(*byte))?;
         }
     }
     Ok(!in_comment)

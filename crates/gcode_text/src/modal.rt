@@ -2,8 +2,8 @@
 ghost use Rattle.std.specs.Prelude.{◌≡◌};
 ghost use Rattle.gcode_text.specs.Moves.{judge_move, names_place};
 
+use crate::block::{Block, Height};
 use crate::fault::CodeKind;
-use crate::said::{Height, Said};
 use plane_exact::moves::{LineMove, Move, Place};
 use plane_exact::point::Point;
 
@@ -32,14 +32,14 @@ impl Position {
         }
     }
 
-    /// After a line that says this.
-    pub fn moved(&self, said: &Said) -> Position
-        ensures { result ≡ moved self.now said.now }
+    /// After a line of this block.
+    pub fn moved(&self, block: &Block) -> Position
+        ensures { result ≡ moved self.now block.now }
     {
         Position {
-            x: said.x.or(self.x),
-            y: said.y.or(self.y),
-            z: said.z.or(self.z),
+            x: block.x.or(self.x),
+            y: block.y.or(self.y),
+            z: block.z.or(self.z),
         }
     }
 
@@ -63,18 +63,18 @@ impl Position {
     }
 }
 
-/// The move of a line that says this, after `count` earlier moves: one if it names a coordinate and all were known
+/// The move of a line of this block, after `count` earlier moves: one if it names a coordinate and all were known
 /// before it. `Unplaced` where the height is below the surface behind the line and not every coordinate was known
 /// before it, else `TooMany` for a move past the most moves.
 pub fn judge_move(
     line: u32,
     count: usize,
     old: &Position,
-    said: &Said,
+    block: &Block,
 ) -> Result<Option<LineMove>, CodeKind>
-    ensures { result ≡ judge_move line count old.now said.now }
+    ensures { result ≡ judge_move line count old.now block.now }
 {
-    let new = old.moved(said);
+    let new = old.moved(block);
     let Some(from) = old.place() else {
         return if new.is_below() {
             Err(CodeKind::Unplaced)
@@ -82,7 +82,7 @@ pub fn judge_move(
             Ok(None)
         };
     };
-    if !names_place(said) {
+    if !names_place(block) {
         return Ok(None);
     }
     if count >= MOST_MOVES {
@@ -98,8 +98,8 @@ pub fn judge_move(
 }
 
 // Whether a word names a coordinate.
-fn names_place(said: &Said) -> bool
-    ensures { result ≡ names_place said.now }
+fn names_place(block: &Block) -> bool
+    ensures { result ≡ names_place block.now }
 {
-    said.x.is_some() || said.y.is_some() || said.z.is_some()
+    block.x.is_some() || block.y.is_some() || block.z.is_some()
 }

@@ -2,15 +2,15 @@
 ghost use Rattle.std.specs.Prelude.{◌≡◌, ◌+◌, ◌<◌, ◌≤◌, ◌^◌, ◌∷◌, Ok, Err, IfErr, IfOk, List, ℕ, OnOk, [], if◌then◌else◌, length};
 ghost use Rattle.grid_num.specs.Judging.{and_then};
 ghost use Rattle.grid_num.specs.Pieces.{Piece};
-ghost use Rattle.gcode_text.specs.Moves.{in_line, judge_line, judge_move, line_said, moves_of, nowhere};
+ghost use Rattle.gcode_text.specs.Moves.{in_line, judge_line, judge_move, line_block, moves_of, nowhere};
 ghost use Rattle.gcode_text.specs.Run.{IsBehind, moves_left};
 ghost use Rattle.gcode_text.specs.Reading.{HasFault};
 
+use crate::block::Block;
 use crate::fault::{CodeFault, CodeKind, FinishFault};
 use crate::judge::judge;
 use crate::line::take_outside;
 use crate::modal::{Position, judge_move};
-use crate::said::Said;
 use grid_num::pieces::Lines;
 use grid_num::units::Units;
 use plane_exact::moves::LineMove;
@@ -43,8 +43,8 @@ struct Program {
     line: u32,
     position: Position,
     moves: Vec<LineMove>,
-    // What the last line said, kept for its room.
-    said: Vec<u8>,
+    // What stood outside the comments of the last line, kept for its room.
+    outside: Vec<u8>,
 }
 
 impl Program {
@@ -57,7 +57,7 @@ impl Program {
             line: 1,
             position: Position::nowhere(),
             moves: Vec::new(alloc),
-            said: Vec::new(alloc),
+            outside: Vec::new(alloc),
         }
     }
 
@@ -78,86 +78,86 @@ impl Program {
         let Ok(judged) = self.judged(text) else {
             return Err(FinishFault::Memory);
         };
-        let (said, mv) = match judged {
+        let (block, mv) = match judged {
             Ok(taken) => taken,
             Err(fault) => return Err(FinishFault::Code(fault)),
         };
-        let Ok(()) = self.go_on(&said, mv) else {
+        let Ok(()) = self.go_on(&block, mv) else {
             return Err(FinishFault::Memory);
         };
-        Ok(said.last)
+        Ok(block.last)
     }
 
-    // Behind a line that says this and gives this move.
-    fn go_on(&mut self, said: &Said, mv: Option<LineMove>) -> Result<(), AllocError>
+    // Behind a line of this block that gives this move.
+    fn go_on(&mut self, block: &Block, mv: Option<LineMove>) -> Result<(), AllocError>
         requires { self.old.line + 1 < 2 ^ 32 }
-        ensures { OnOk result (IsBehind self.old said.now mv self.new) }
+        ensures { OnOk result (IsBehind self.old block.now mv self.new) }
     {
         if let Some(mv) = mv {
             self.moves.push(mv)?;
         }
-        self.position = self.position.moved(said);
+        self.position = self.position.moved(block);
         self.line += 1;
         Ok(())
     }
 
-    // What the next line says, and its move.
+    // The block of the next line, and its move.
     fn judged(
         &mut self,
         text: &[u8],
-    ) -> Result<Result<(Said, Option<LineMove>), CodeFault>, AllocError>
-        ensures same { self.new ≡ record self.old { said = self.new.said } }
+    ) -> Result<Result<(Block, Option<LineMove>), CodeFault>, AllocError>
+        ensures same { self.new ≡ record self.old { outside = self.new.outside } }
         ensures judged { IfOk result (λ judged. judged ≡ in_line self.old.line (judge_line self.old.units self.old.line (length self.old.moves.items) self.old.position text.now)) }
     {
-        let said = said_by(self.units, text, &mut self.said)?;
-        let judged = with_move(self.line, self.moves.len(), &self.position, said);
+        let block = line_block(self.units, text, &mut self.outside)?;
+        let judged = with_move(self.line, self.moves.len(), &self.position, block);
         Ok(in_line(self.line, judged))
     }
 }
 
-// What a line says.
-fn said_by(
+// The block of a line.
+fn line_block(
     units: Units,
     line: &[u8],
-    room: &mut Vec<u8>,
-) -> Result<Result<Said, CodeKind>, AllocError>
-    ensures { IfOk result (λ said. said ≡ line_said units line.now) }
+    outside: &mut Vec<u8>,
+) -> Result<Result<Block, CodeKind>, AllocError>
+    ensures { IfOk result (λ block. block ≡ line_block units line.now) }
 {
     if line.len() > MOST_LINE_BYTES {
         return Ok(Err(CodeKind::LongLine));
     }
-    if !take_outside(line, room)? {
+    if !take_outside(line, outside)? {
         return Ok(Err(CodeKind::OpenComment));
     }
-    Ok(match room.as_slice() {
-        [b'%'] => Ok(Said::nothing()),
+    Ok(match outside.as_slice() {
+        [b'%'] => Ok(Block::empty()),
         words => judge(units, words),
     })
 }
 
-// What a line says, with its move.
+// The block of a line, with its move.
 fn with_move(
     line: u32,
     count: usize,
     old: &Position,
-    said: Result<Said, CodeKind>,
-) -> Result<(Said, Option<LineMove>), CodeKind>
-    ensures { result ≡ and_then said (λ said. and_then (judge_move line count old.now said) (λ mv. Ok (said, mv))) }
+    block: Result<Block, CodeKind>,
+) -> Result<(Block, Option<LineMove>), CodeKind>
+    ensures { result ≡ and_then block (λ block. and_then (judge_move line count old.now block) (λ mv. Ok (block, mv))) }
 {
-    let said = said?;
-    let mv = judge_move(line, count, old, &said)?;
-    Ok((said, mv))
+    let block = block?;
+    let mv = judge_move(line, count, old, &block)?;
+    Ok((block, mv))
 }
 
 // With the number of the line, where it has a fault.
 fn in_line(
     line: u32,
-    judged: Result<(Said, Option<LineMove>), CodeKind>,
-) -> Result<(Said, Option<LineMove>), CodeFault>
+    judged: Result<(Block, Option<LineMove>), CodeKind>,
+) -> Result<(Block, Option<LineMove>), CodeFault>
     ensures { result ≡ in_line line judged }
 {
     match judged {
-        Ok(said) => Ok(said),
+        Ok(block) => Ok(block),
         Err(kind) => Err(CodeFault { line, kind }),
     }
 }

@@ -1,4 +1,4 @@
-// What a line says: which words it has, and their coordinates.
+// Blocks: which words a line of code has, and their coordinates.
 ghost use Rattle.std.specs.Prelude.{◌≡◌, ◌↔◌, IsSome, IfSome};
 
 use std::marker::Model;
@@ -48,9 +48,9 @@ impl Height {
     }
 }
 
-/// What the words of a line say.
+/// What the words of a line say: in the words of RS274/NGC, its block.
 #[derive(Clone, Copy)]
-pub struct Said {
+pub struct Block {
     /// Whether there is a word with this letter.
     pub n: bool,
     pub f: bool,
@@ -66,14 +66,14 @@ pub struct Said {
     pub last: bool,
 }
 
-impl Said {
-    ghost use Rattle.gcode_text.specs.Profile.{nothing_said};
+impl Block {
+    ghost use Rattle.gcode_text.specs.Profile.{empty_block};
 
-    /// What no word says.
-    pub fn nothing() -> Said
-        ensures { result ≡ nothing_said }
+    /// The block of no words.
+    pub fn empty() -> Block
+        ensures { result ≡ empty_block }
     {
-        Said {
+        Block {
             n: false,
             f: false,
             s: false,
