@@ -12,7 +12,7 @@ use std::marker::Model;
 
 /// Reads G-code that is fed in pieces: its moves depend on the bytes alone, and not on how they are cut.
 ///
-/// The code is that of RS274/NGC as LinuxCNC documents it, with these departures, which are this project's profile.
+/// The code is of the profile that docs/GCODE.md tells: RS274/NGC as LinuxCNC documents it, with these departures.
 ///
 /// - A line has the words of N, G, M, X, Y, Z, F, S and P; every other letter is refused, and so are block delete
 ///   (`/`), parameters (`#`), expressions (`[`) and O words. A letter other than G and M stands once in a line.

@@ -1,5 +1,5 @@
-// Numbers and the reader against their format: letters, G and M numbers, and whole codes, each read whole and however it is cut.
-// Expected answers are written by hand from the format's rules.
+// Numbers and the reader against docs/GCODE.md: letters, G and M numbers, and whole codes, each read whole and however it is
+// cut. The expected answers are written by hand from what stands there.
 use crate::fault::FinishFault;
 use crate::reader::Reader;
 use grid_num::decimal::{NumFault, read_decimal};

@@ -1,4 +1,4 @@
-// Files in loops form with what the format's text says of them, and each call of a drawing once.
+// Files in loops form with what docs/COMMANDS.md says of them, and each call of a drawing once.
 use crate::drawing::{Drawing, PushFault};
 use crate::reader::{LoopsFault, LoopsKind, read_loops};
 use plane_exact::point::{Point, Seg};
@@ -48,7 +48,7 @@ const TEXTS: [(&[u8], &str); 38] = [
 ];
 
 #[test]
-fn reads_what_the_format_says(rt: HostRuntime) -> Result<(), Fail> {
+fn reads_what_the_manual_says(rt: HostRuntime) -> Result<(), Fail> {
     for (text, want) in TEXTS {
         assert!(rt; text.len() < 100);
         let answer = described(rt.alloc(), read_loops(rt.alloc(), text))?;
