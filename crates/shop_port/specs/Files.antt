@@ -1,6 +1,8 @@
 -- What a read of a file finds.
-use Rattle.std.specs.Prelude.{◌≡◌, ◌≤◌, ◌<◌, ◌-◌, ℕ, List, length, take, drop, Option, None, Some, String, Vec, option_map}
+use Rattle.std.specs.Prelude.{◌≡◌, ◌≤◌, ◌<◌, ◌-◌, ℕ, List, length, take, drop, Option, None, Some, String, Vec, option_map, Result, Ok, Err}
 use Rattle.std.specs.BTreeMap.{BTreeMap, get_by_text}
+use Rattle.shop_port.specs.Counts.{one_more}
+use Rattle.shop_port.specs.declared.depot.Failed.{Failed}
 use Rattle.shop_port.specs.declared.depot.Fetch.{Fetch}
 use Rattle.shop_port.specs.declared.depot.Fetch.TheVariants.{Got, Absent}
 
@@ -27,6 +29,12 @@ IsPieceOf (Some file) at into (Got n) = HasPiece file at n into
 IsPieceOf (Some file) at into Absent = ⊥
 IsPieceOf None at into (Got n) = ⊥
 IsPieceOf None at into Absent = Unit {0}
+
+-- the count of missed names, one more where the name was absent
+abbrev pub missed_after : Result Fetch Failed → ℕ → ℕ
+missed_after (Ok Absent) missed = one_more missed
+missed_after (Ok (Got n)) missed = missed
+missed_after (Err failed) missed = missed
 
 -- the bytes under each name, by the name's bytes
 abbrev pub files_of : {A B : Type 0} → BTreeMap (String A) (Vec ℕ B) → List ℕ → Option (List ℕ)

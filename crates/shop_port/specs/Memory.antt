@@ -1,10 +1,6 @@
 -- What the depot and the sink in memory keep: their setting, their content and how many calls were made.
-use Rattle.std.specs.Prelude.{ℕ, List, Option, Result, Ok, Err, vec_capacity}
-use Rattle.shop_port.specs.Counts.{one_more}
+use Rattle.std.specs.Prelude.{ℕ, List, Option, vec_capacity}
 use Rattle.shop_port.specs.Files.{files_of}
-use Rattle.shop_port.specs.declared.depot.Failed.{Failed}
-use Rattle.shop_port.specs.declared.depot.Fetch.{Fetch}
-use Rattle.shop_port.specs.declared.depot.Fetch.TheVariants.{Got, Absent}
 use Rattle.shop_port.specs.declared.memory.MemDepot.{MemDepot}
 use Rattle.shop_port.specs.declared.memory.MemSink.{MemSink}
 
@@ -28,12 +24,6 @@ reads_failed depot = depot.schedule.faults
 
 abbrev pub names_missed : MemDepot → ℕ
 names_missed depot = depot.misses
-
--- one more where the name was absent
-abbrev pub missed_after : Result Fetch Failed → ℕ → ℕ
-missed_after (Ok Absent) missed = one_more missed
-missed_after (Ok (Got n)) missed = missed
-missed_after (Err failed) missed = missed
 
 -- the bytes taken so far
 abbrev pub taken_by : MemSink → List ℕ

@@ -1,14 +1,16 @@
 // Reads of files that lie in memory.
-ghost use Rattle.std.specs.Prelude.{◌≡◌, ◌≤◌, ◌<◌, ◌-◌, min, length};
-ghost use Rattle.shop_port.specs.Files.{HasPiece, IsPieceOf, IfGot, files_of};
+ghost use Rattle.std.specs.Prelude.{◌≡◌, ◌≤◌, ◌<◌, ◌-◌, min, length, Ok};
+ghost use Rattle.shop_port.specs.Files.{HasPiece, IsPieceOf, IfGot, files_of, missed_after};
 
 use crate::Fetch;
 use std::collections::BTreeMap;
 
-/// Copies bytes of a named file to the front of the buffer, `per_call` of them at most.
+/// Copies bytes of a named file to the front of the buffer, `per_call` of them at most. Counts a name
+/// that isn't found.
 pub fn read_held(
     files: &BTreeMap<String, Vec<u8>>,
     per_call: usize,
+    misses: &mut u64,
     name: &str,
     at: u64,
     into: &mut [u8],
@@ -17,10 +19,15 @@ pub fn read_held(
     ensures told { IsPieceOf (files_of files.now name.now) at into.new result }
     ensures within { IfGot result (λ n. n ≤ length into.new) }
     ensures few { IfGot result (λ n. n ≤ per_call) }
+    ensures missed { misses.new ≡ missed_after (Ok result) misses.old }
+    ensures rising { misses.old ≤ misses.new }
 {
     match files.get(name) {
         Some(file) => Fetch::Got(copy_piece(file, per_call, at, into)),
-        None => Fetch::Absent,
+        None => {
+            *misses = misses.saturating_add(1);
+            Fetch::Absent
+        }
     }
 }
 

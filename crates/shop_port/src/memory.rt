@@ -1,7 +1,7 @@
 // A depot and a sink in memory whose calls fail where they are told to.
 ghost use Rattle.std.specs.Prelude.{◌≡◌, ◌≤◌, ◌<◌, ◌+◌, ◌⊎◌, ◌++◌, [], length, take, min, true, IfOk, OnErr, IsErr, is_err, if◌then◌else◌, None, Some};
 ghost use Rattle.shop_port.specs.Counts.{Rose, one_more, is_listed};
-ghost use Rattle.shop_port.specs.Files.{files_of, IfGot, IfAbsent, IsPieceOf};
+ghost use Rattle.shop_port.specs.Files.{files_of, IfGot, IfAbsent, IsPieceOf, missed_after};
 
 use crate::held::read_held;
 use crate::schedule::Schedule;
@@ -43,7 +43,7 @@ impl MemDepot {
 }
 
 impl Depot for MemDepot {
-    ghost use Rattle.shop_port.specs.Memory.{files_in, most_per_read, failing_reads, reads_made, reads_failed, names_missed, missed_after};
+    ghost use Rattle.shop_port.specs.Memory.{files_in, most_per_read, failing_reads, reads_made, reads_failed, names_missed};
 
     ghost held = { λ depot. Some (files_in depot) };
 
@@ -72,11 +72,7 @@ impl Depot for MemDepot {
         if self.schedule.next_fails() {
             return Err(Failed);
         }
-        let fetch = read_held(&self.files, self.per_call, name, at, into);
-        if fetch == Fetch::Absent {
-            self.misses = self.misses.saturating_add(1);
-        }
-        Ok(fetch)
+        Ok(read_held(&self.files, self.per_call, &mut self.misses, name, at, into))
     }
 }
 

@@ -57,11 +57,7 @@ impl Depot for SureDepot {
         ensures few { IfOk result (λ fetch. IfGot fetch (λ n. n ≤ per_read self.old)) }
         ensures per_read { per_read self.new ≡ per_read self.old }
     {
-        let fetch = read_held(&self.files, self.per_call, name, at, into);
-        if fetch == Fetch::Absent {
-            self.misses = self.misses.saturating_add(1);
-        }
-        Ok(fetch)
+        Ok(read_held(&self.files, self.per_call, &mut self.misses, name, at, into))
     }
 }
 
