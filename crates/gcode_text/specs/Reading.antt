@@ -6,7 +6,7 @@ use Rattle.gcode_text.specs.declared.fault.CodeFault.{CodeFault}
 use Rattle.gcode_text.specs.declared.fault.FinishFault.{FinishFault}
 use Rattle.gcode_text.specs.declared.fault.FinishFault.TheVariants.{Code, Memory}
 
--- the job's units, and the bytes fed; None after a want of memory
+-- the job's units, and the bytes fed; None after want of memory
 pub record Fed : Type 0 where
   pub units : Units
   pub fed : Option (List ℕ)

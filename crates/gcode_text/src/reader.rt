@@ -34,7 +34,7 @@ use std::marker::Model;
 pub struct Reader {
     alloc: Global,
     units: Units,
-    // What was fed, or None after a want of memory.
+    // What was fed, or None after want of memory.
     code: Option<Vec<u8>>,
 }
 
