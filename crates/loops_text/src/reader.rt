@@ -25,11 +25,12 @@ pub enum LoopsKind {
     OutOfRange,
     /// The point is the file's 131,073rd.
     TooMany,
-    /// Memory ran out.
+    /// Memory ran out. No line is ever printed for it.
     Memory,
 }
 
-/// The first fault of a text in loops form.
+/// The first fault of a text in loops form; or that memory ran out, which isn't the text's fault, and for which no line is
+/// ever printed.
 #[derive(Clone, Copy, Debug, PartialEq, Eq)]
 pub struct LoopsFault {
     /// The place of the faulty word in the text, in bytes from 0; 0 for want of memory.
