@@ -11,7 +11,7 @@ use crate::fault::{CodeFault, CodeKind, FinishFault};
 use crate::judge::judge;
 use crate::line::take_outside;
 use crate::modal::{Position, judge_move};
-use grid_num::pieces::Lines;
+use grid_num::lines::Lines;
 use grid_num::units::Units;
 use plane_exact::moves::LineMove;
 use std::alloc::{AllocError, Global};

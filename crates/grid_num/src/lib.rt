@@ -2,6 +2,7 @@
 #![tactic(auto)]
 
 pub mod decimal;
+pub mod lines;
 mod numeral;
 pub mod pieces;
 pub mod units;

@@ -1,4 +1,4 @@
-// Cuts a text into lines and words, each with its place. No byte is looked at more than a few times.
+// Cuts a text at its separators into pieces, each with its place. No byte is looked at more than a few times.
 ghost use Rattle.std.specs.Prelude.{◌≡◌, ◌+◌, ◌<◌, ◌^◌, ◌∷◌, IfSome, length};
 
 use std::marker::Model;
@@ -66,7 +66,7 @@ impl<'a> Piece<'a> {
     }
 
     // Without a carriage return at its very end.
-    fn trimmed(self) -> Piece<'a>
+    pub(crate) fn trimmed(self) -> Piece<'a>
         ensures { piece_of result ≡ trimmed (piece_of self.entry) }
     {
         let Some((last, line)) = self.bytes.split_last() else {
@@ -136,101 +136,5 @@ impl<'a> Iterator for Pieces<'a> {
         let (first, rest) = self.rest?.cut(self.separator);
         self.rest = rest;
         Some(first)
-    }
-}
-
-/// Gives the lines of a text in order. They end with a line feed, which the last one may lack; neither it nor a
-/// carriage return before it, or at the end of the text, is part of the line.
-#[derive(Debug, Drop)]
-pub struct Lines<'a> {
-    lines: Pieces<'a>,
-}
-
-impl<'a> Model for Lines<'a> {
-    ghost use Rattle.std.specs.Prelude.{List, map};
-    ghost use Rattle.grid_num.specs.Pieces.{Piece as TextPiece};
-    ghost use Rattle.grid_num.specs.Cutting.{trimmed};
-
-    ghost Value = { List TextPiece };
-
-    ghost view = { λ s. map trimmed s.lines };
-}
-
-impl<'a> Lines<'a> {
-    ghost use Rattle.grid_num.specs.Pieces.{lines_of};
-
-    /// The lines of a text of fewer than 2^32 bytes.
-    pub fn of(text: &'a [u8]) -> Lines<'a>
-        requires { length text.now < 2 ^ 32 }
-        ensures { result ≡ lines_of text.now }
-    {
-        Lines {
-            lines: Pieces::of(text, Separator::Byte(b'\n')),
-        }
-    }
-}
-
-impl<'a> Iterator for Lines<'a> {
-    ghost use Rattle.std.specs.Iterator.{YieldsFirstBy, item_count};
-    ghost use Rattle.grid_num.specs.Cutting.{piece_of};
-
-    type Item = Piece<'a>;
-
-    ghost next_gives = { YieldsFirstBy piece_of (λ left. left) };
-
-    ghost remaining = { item_count (λ left. left) };
-
-    fn next(&mut self) -> Option<Piece<'a>> {
-        Some(self.lines.next()?.trimmed())
-    }
-}
-
-/// Gives the words of a line, between its blanks, in order.
-#[derive(Debug, Drop)]
-pub struct Words<'a> {
-    pieces: Pieces<'a>,
-}
-
-impl<'a> Model for Words<'a> {
-    ghost use Rattle.std.specs.Prelude.{List, filter};
-    ghost use Rattle.grid_num.specs.Pieces.{Piece as TextPiece};
-    ghost use Rattle.grid_num.specs.Cutting.{is_word};
-
-    ghost Value = { List TextPiece };
-
-    ghost view = { λ s. filter is_word s.pieces };
-}
-
-impl<'a> Words<'a> {
-    ghost use Rattle.grid_num.specs.Cutting.{piece_of};
-    ghost use Rattle.grid_num.specs.Pieces.{words_of};
-
-    /// The words of a line.
-    pub fn of(line: Piece<'a>) -> Words<'a>
-        ensures { result ≡ words_of (piece_of line.entry) }
-    {
-        Words {
-            pieces: Pieces::of_piece(line, Separator::Blank),
-        }
-    }
-}
-
-impl<'a> Iterator for Words<'a> {
-    ghost use Rattle.std.specs.Iterator.{YieldsFirstBy, item_count};
-    ghost use Rattle.grid_num.specs.Cutting.{piece_of};
-
-    type Item = Piece<'a>;
-
-    ghost next_gives = { YieldsFirstBy piece_of (λ left. left) };
-
-    ghost remaining = { item_count (λ left. left) };
-
-    fn next(&mut self) -> Option<Piece<'a>> {
-        while let Some(piece) = self.pieces.next() {
-            if !piece.bytes.is_empty() {
-                return Some(piece);
-            }
-        }
-        None
     }
 }
