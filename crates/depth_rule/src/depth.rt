@@ -5,9 +5,8 @@ ghost use Rattle.engrave_model.specs.Depth.{IsDiscClear, IsGreatestDepth};
 ghost use Rattle.engrave_model.specs.Drawing.{edges_of};
 
 use crate::scene::Scene;
-use engrave_model::depth::{MOST_DEPTH, is_disc_clear};
-use plane_exact::bit::Bit;
-use plane_exact::point::{Point, Seg};
+use engrave_model::{MOST_DEPTH, is_disc_clear};
+use plane_exact::{Bit, Point, Seg};
 
 /// The greatest depth up to `limit`, in grid units, that the bit may have over `p`: the greatest one at which its open
 /// disc holds no point of an edge and is no wider than the bit allows. It is 0 where `p` isn't inside.

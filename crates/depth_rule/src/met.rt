@@ -7,10 +7,8 @@ ghost use Rattle.engrave_model.specs.Inside.{IsInside};
 ghost use Rattle.depth_rule.specs.Met.{IsFirstMet, IsMet};
 
 use crate::scene::Scene;
-use plane_exact::bit::Bit;
-use plane_exact::moves::Move;
-use plane_exact::point::{Point, Seg};
-use swept_move::clear::clear_of;
+use plane_exact::{Bit, Move, Point, Seg};
+use swept_move::clear_of;
 
 /// What a move meets.
 #[derive(Clone, Copy, Debug, PartialEq, Eq)]

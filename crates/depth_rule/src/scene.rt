@@ -1,7 +1,7 @@
 // A drawing made ready to be asked: which points it holds, and its edges by number.
-use evenodd_region::rows::{Rows, inside, inside_ratio};
-use loops_text::drawing::Drawing;
-use plane_exact::point::Point;
+use evenodd_region::{Rows, inside, inside_ratio};
+use loops_text::Drawing;
+use plane_exact::Point;
 use std::alloc::{AllocError, Global};
 use std::marker::Model;
 

@@ -1,8 +1,7 @@
 // The program: gives the words, the host's files and the standard output to the top call, and ends with its status.
 #![tactic(auto)]
 
-use engrave_core::outcome::status;
-use engrave_core::top::engrave;
+use engrave_core::{engrave, status};
 use shop_port::{HostDepot, HostSink};
 use std::io::ErrorKind;
 use std::process::ExitCode;

@@ -2,13 +2,10 @@
 // depths, and devices that fail; and how segments meet, of plane_exact.
 ghost use Rattle.std.specs.Prelude.{◌≤◌};
 
-use engrave_core::outcome::{Outcome, status};
-use engrave_core::top::engrave;
-use engrave_model::depth::{MOST_DEPTH, greatest_depth_by_steps};
-use loops_text::reader::read_loops;
-use plane_exact::bit::Bit;
-use plane_exact::meet::{Meet, cross_kind};
-use plane_exact::point::{Point, Seg};
+use engrave_core::{Outcome, engrave, status};
+use engrave_model::{MOST_DEPTH, greatest_depth_by_steps};
+use loops_text::read_loops;
+use plane_exact::{Bit, Meet, Point, Seg, cross_kind};
 use shop_port::{HostDepot, MemDepot, MemSink, SureDepot, SureSink};
 use std::alloc::Global;
 use std::collections::BTreeMap;

@@ -8,8 +8,8 @@ use Rattle.grid_num.specs.declared.units.Units.{Units}
 use Rattle.gcode_text.specs.Moves.{moves_of}
 use Rattle.gouge_checker.proofs.Safety.{clear_code_is_safe}
 use Rattle.gouge_checker.specs.Verdict.{IsVerdict}
-use Rattle.gouge_checker.specs.declared.check.Verdict.{Verdict}
-use Rattle.gouge_checker.specs.declared.check.Verdict.TheVariants.{Clear, TooDeep, Slant, Gouge, Outside}
+use Rattle.gouge_checker.specs.declared.verdict.Verdict.{Verdict}
+use Rattle.gouge_checker.specs.declared.verdict.Verdict.TheVariants.{Clear, TooDeep, Slant, Gouge, Outside}
 use Rattle.job_words.specs.declared.request.Request.{Request}
 use Rattle.job_words.specs.declared.request.Request.TheVariants.{Probe, Moves, Check}
 use Rattle.loops_text.specs.Loops.{loops_of}

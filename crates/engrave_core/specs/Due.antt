@@ -7,8 +7,8 @@ use Rattle.grid_num.specs.declared.units.Units.{Units}
 use Rattle.engrave_model.specs.Depth.{IsGreatestDepth}
 use Rattle.engrave_model.specs.Drawing.{edges_of}
 use Rattle.gouge_checker.specs.Verdict.{IsVerdict}
-use Rattle.gouge_checker.specs.declared.check.Verdict.{Verdict}
-use Rattle.gouge_checker.specs.declared.check.Verdict.TheVariants as verdict
+use Rattle.gouge_checker.specs.declared.verdict.Verdict.{Verdict}
+use Rattle.gouge_checker.specs.declared.verdict.Verdict.TheVariants as verdict
 use Rattle.job_words.specs.Request.{request_of}
 use Rattle.job_words.specs.declared.request.Request.{Request}
 use Rattle.job_words.specs.declared.request.Request.TheVariants.{Probe, Moves, Check}

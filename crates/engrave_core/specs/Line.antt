@@ -9,8 +9,8 @@ use Rattle.engrave_core.specs.declared.outcome.Which.TheVariants as which
 use Rattle.gcode_text.specs.declared.fault.CodeFault.{CodeFault}
 use Rattle.gcode_text.specs.declared.fault.CodeKind.{CodeKind}
 use Rattle.gcode_text.specs.declared.fault.CodeKind.TheVariants as code
-use Rattle.gouge_checker.specs.declared.check.Verdict.{Verdict}
-use Rattle.gouge_checker.specs.declared.check.Verdict.TheVariants as verdict
+use Rattle.gouge_checker.specs.declared.verdict.Verdict.{Verdict}
+use Rattle.gouge_checker.specs.declared.verdict.Verdict.TheVariants as verdict
 use Rattle.loops_text.specs.declared.reader.LoopsFault.{LoopsFault}
 use Rattle.loops_text.specs.declared.reader.LoopsKind.{LoopsKind}
 use Rattle.loops_text.specs.declared.reader.LoopsKind.TheVariants as loops

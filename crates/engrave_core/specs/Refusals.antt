@@ -1,6 +1,6 @@
 -- Which refusals there are, by what is read and by what the words ask for, whatever the files hold.
 use Rattle.std.specs.Prelude.{◌≡◌, ◌≢◌, ◌⊎◌, Option, Some, None}
-use Rattle.gouge_checker.specs.declared.check.Verdict.TheVariants as verdict
+use Rattle.gouge_checker.specs.declared.verdict.Verdict.TheVariants as verdict
 use Rattle.job_words.specs.declared.request.Request.{Request}
 use Rattle.job_words.specs.declared.request.Request.TheVariants.{Probe, Moves, Check}
 use Rattle.loops_text.specs.declared.reader.LoopsKind.TheVariants as loops

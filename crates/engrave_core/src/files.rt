@@ -5,12 +5,10 @@ ghost use Rattle.engrave_core.specs.Refusals.{IsRefusalOfCode, IsRefusalOfFile, 
 ghost use Rattle.engrave_core.specs.Top.{IsCaused};
 
 use crate::outcome::{InputFault, Outcome, Which};
-use gcode_text::fault::FinishFault;
-use gcode_text::program::moves_in;
-use grid_num::units::Units;
-use loops_text::drawing::Drawing;
-use loops_text::reader::{LoopsFault, LoopsKind, read_loops};
-use plane_exact::moves::LineMove;
+use gcode_text::{FinishFault, moves_in};
+use grid_num::Units;
+use loops_text::{Drawing, LoopsFault, LoopsKind, read_loops};
+use plane_exact::LineMove;
 use shop_port::{Depot, LoadFault, load};
 use std::alloc::Global;
 

@@ -1,9 +1,14 @@
-// The top call: from the words of a command and the bytes of its files to the outcome and the written text.
+//! The top call: from the words of a command and the bytes of its files to the outcome and the written text.
+//!
+//! The whole promise are the clauses of `engrave`, first `safe` and `due`.
 #![tactic(auto)]
 
 mod command;
 mod files;
 mod line;
 mod listing;
-pub mod outcome;
-pub mod top;
+mod outcome;
+mod top;
+
+pub use outcome::{InputFault, Outcome, Which, status};
+pub use top::engrave;

@@ -3,9 +3,9 @@ ghost use Rattle.std.specs.Prelude.{◌≡◌, string_bytes, IfOk, MatchOption};
 ghost use Rattle.engrave_core.specs.Line.{line_of, input_line, loops_line, loops_words, code_line, code_words, verdict_line};
 
 use crate::outcome::{InputFault, Outcome, Which};
-use gcode_text::fault::{CodeFault, CodeKind};
-use gouge_checker::check::Verdict;
-use loops_text::reader::{LoopsFault, LoopsKind};
+use gcode_text::{CodeFault, CodeKind};
+use gouge_checker::Verdict;
+use loops_text::{LoopsFault, LoopsKind};
 use std::alloc::{AllocError, Global};
 
 /// The line of a refusal; empty for an outcome that has none.

@@ -2,7 +2,7 @@
 ghost use Rattle.std.specs.Prelude.{◌≡◌, IfOk, flat_map, string_bytes};
 ghost use Rattle.engrave_core.specs.Due.{move_line, moves_text, place_text};
 
-use plane_exact::moves::{LineMove, Place};
+use plane_exact::{LineMove, Place};
 use std::alloc::{AllocError, Global};
 
 /// A line `LINE X,Y,H X,Y,H` for each move, its places in grid units, and then `moves COUNT`.

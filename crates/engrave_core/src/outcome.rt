@@ -2,9 +2,9 @@
 ghost use Rattle.std.specs.Prelude.{◌≡◌};
 ghost use Rattle.engrave_core.specs.Outcome.{status_of};
 
-use gcode_text::fault::CodeFault;
-use gouge_checker::check::Verdict;
-use loops_text::reader::LoopsFault;
+use gcode_text::CodeFault;
+use gouge_checker::Verdict;
+use loops_text::LoopsFault;
 
 /// What a run came to.
 #[derive(Clone, Copy, Debug, PartialEq, Eq)]

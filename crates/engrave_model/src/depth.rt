@@ -5,9 +5,7 @@ ghost use Rattle.engrave_model.specs.Clear.{depth_of};
 ghost use Rattle.engrave_model.specs.Depth.{IsDiscClear, IsEdgeClear, IsGreatestDepth};
 
 use crate::inside::is_inside;
-use plane_exact::bit::Bit;
-use plane_exact::distance::dist_at_least;
-use plane_exact::point::{Point, Seg};
+use plane_exact::{Bit, Point, Seg, dist_at_least};
 
 /// The greatest depth that any limit allows, in grid units.
 pub const MOST_DEPTH: u32 = 32_767;

@@ -4,9 +4,7 @@ ghost use Rattle.plane_exact.specs.Plane.{rational};
 ghost use Rattle.plane_exact.specs.Product.{cross_of};
 ghost use Rattle.engrave_model.specs.Inside.{IsOnOutline, IsInside, is_counted};
 
-use plane_exact::point::{Point, Seg};
-use plane_exact::product::cross;
-use plane_exact::segment::passes_through;
+use plane_exact::{Point, Seg, cross, passes_through};
 
 /// Whether the point lies on an edge.
 pub fn is_on_outline(edges: &[Seg], p: Point) -> bool

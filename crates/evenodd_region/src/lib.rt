@@ -1,9 +1,14 @@
-// Which points a drawing holds, and laws of the even-odd rule.
+//! Which points a drawing holds, and laws of the even-odd rule.
+//!
+//! The promise are the clauses of `inside` and `inside_ratio`, for points of the grid and between them, and the laws of `law`:
+//! along a path that meets no edge, inside doesn't change.
 #![tactic(auto)]
 
 pub mod law;
 mod ratio;
-pub mod rows;
+mod rows;
 mod sides;
 #[cfg(test)]
 mod tests;
+
+pub use rows::{Rows, inside, inside_ratio};

@@ -8,9 +8,9 @@ ghost use Rattle.evenodd_region.specs.Ratios.{rational_of};
 
 use crate::ratio::RatioPoint;
 use crate::sides::{is_edge_counted, is_on_edge};
-use engrave_model::inside::is_inside;
-use loops_text::drawing::Drawing;
-use plane_exact::point::{Point, Seg};
+use engrave_model::is_inside;
+use loops_text::Drawing;
+use plane_exact::{Point, Seg};
 use std::alloc::{AllocError, Global};
 use std::marker::Model;
 

@@ -7,7 +7,7 @@ ghost use Rattle.evenodd_region.specs.Lookup.{IsNearGrid};
 ghost use Rattle.evenodd_region.specs.Ratios.{IsWay, rational_of, turn, facing};
 
 use crate::ratio::RatioPoint;
-use plane_exact::point::{Point, Seg};
+use plane_exact::{Point, Seg};
 
 // The way from a grid point to a rational point, times the denominator.
 #[derive(Clone, Copy)]

@@ -1,7 +1,7 @@
 // A plate with a hole, and a thin wedge between the lines of the grid.
 use crate::rows::{Rows, inside, inside_ratio};
-use loops_text::drawing::Drawing;
-use plane_exact::point::Point;
+use loops_text::Drawing;
+use plane_exact::Point;
 use std::test::Fail;
 
 const PLATE: [(i64, i64); 4] = [(0, 0), (9, 0), (9, 9), (0, 9)];

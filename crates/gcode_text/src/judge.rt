@@ -7,8 +7,7 @@ ghost use Rattle.gcode_text.specs.Words.{word_of};
 use crate::block::{Block, Height};
 use crate::fault::CodeKind;
 use crate::words::{Word, first_word};
-use grid_num::decimal::Decimal;
-use grid_num::units::Units;
+use grid_num::{Decimal, Units};
 
 /// The block of a text without comments and blanks, or the first fault among its words.
 pub fn judge(units: Units, text: &[u8]) -> Result<Block, CodeKind>

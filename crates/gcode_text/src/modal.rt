@@ -4,8 +4,7 @@ ghost use Rattle.gcode_text.specs.Moves.{judge_move, names_place};
 
 use crate::block::{Block, Height};
 use crate::fault::CodeKind;
-use plane_exact::moves::{LineMove, Move, Place};
-use plane_exact::point::Point;
+use plane_exact::{LineMove, Move, Place, Point};
 
 /// The most moves of a text.
 const MOST_MOVES: usize = 8_388_608;

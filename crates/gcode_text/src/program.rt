@@ -11,9 +11,8 @@ use crate::fault::{CodeFault, CodeKind, FinishFault};
 use crate::judge::judge;
 use crate::line::take_outside;
 use crate::modal::{Position, judge_move};
-use grid_num::lines::Lines;
-use grid_num::units::Units;
-use plane_exact::moves::LineMove;
+use grid_num::{Lines, Units};
+use plane_exact::LineMove;
 use std::alloc::{AllocError, Global};
 
 /// The most bytes of a line, without what ends it.

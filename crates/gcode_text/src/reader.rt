@@ -5,8 +5,8 @@ ghost use Rattle.gcode_text.specs.Reading.{HasFault};
 
 use crate::fault::FinishFault;
 use crate::program::moves_in;
-use grid_num::units::Units;
-use plane_exact::moves::LineMove;
+use grid_num::Units;
+use plane_exact::LineMove;
 use std::alloc::{AllocError, Global};
 use std::marker::Model;
 

@@ -2,9 +2,8 @@
 // cut. The expected answers are written by hand from what stands there.
 use crate::fault::FinishFault;
 use crate::reader::Reader;
-use grid_num::decimal::{NumFault, read_decimal};
-use grid_num::units::Units;
-use plane_exact::moves::{LineMove, Place};
+use grid_num::{NumFault, Units, read_decimal};
+use plane_exact::{LineMove, Place};
 use std::alloc::{AllocError, Global};
 use std::process::Abort;
 use std::test::Fail;

@@ -12,7 +12,7 @@ use Rattle.engrave_model.specs.Removal.{IsSafe, IsSafeCode}
 use Rattle.evenodd_region.proofs.Sparing.{clear_is_safe_by}
 use Rattle.swept_move.proofs.Swept.{removes_none}
 use Rattle.gouge_checker.specs.Verdict.{IsVerdict}
-use Rattle.gouge_checker.specs.declared.check.Verdict.TheVariants.{Clear}
+use Rattle.gouge_checker.specs.declared.verdict.Verdict.TheVariants.{Clear}
 
 module _ (loops : List (List GridPoint)) (cone : Cone) where
   -- the swept law for each edge, and then the parity law

@@ -7,8 +7,8 @@ use Rattle.plane_exact.specs.declared.moves.LineMove.{LineMove}
 use Rattle.plane_exact.specs.declared.point.Seg.{Seg}
 use Rattle.engrave_model.specs.Clear.{IsClear}
 use Rattle.gouge_checker.specs.Verdict.{IsFaultOf, IsVerdict, IsVerdictOfMove}
-use Rattle.gouge_checker.specs.declared.check.Verdict.{Verdict}
-use Rattle.gouge_checker.specs.declared.check.Verdict.TheVariants.{Clear, TooDeep, Slant, Gouge, Outside}
+use Rattle.gouge_checker.specs.declared.verdict.Verdict.{Verdict}
+use Rattle.gouge_checker.specs.declared.verdict.Verdict.TheVariants.{Clear, TooDeep, Slant, Gouge, Outside}
 
 -- a verdict on the moves from the i-th on is one on all of them
 abbrev pub IsDecidedBy : List Seg → Cone → List LineMove → ℕ → Type 0

@@ -6,8 +6,8 @@ use Rattle.plane_exact.specs.declared.moves.Move.{Move}
 use Rattle.plane_exact.specs.declared.point.Seg.{Seg}
 use Rattle.engrave_model.specs.Clear.{IsClear, IsDeep, IsSlant, IsTooDeep}
 use Rattle.depth_rule.specs.Met.{IsFirstMet, IsOutside}
-use Rattle.gouge_checker.specs.declared.check.Verdict.{Verdict}
-use Rattle.gouge_checker.specs.declared.check.Verdict.TheVariants.{Clear, TooDeep, Slant, Gouge, Outside}
+use Rattle.gouge_checker.specs.declared.verdict.Verdict.{Verdict}
+use Rattle.gouge_checker.specs.declared.verdict.Verdict.TheVariants.{Clear, TooDeep, Slant, Gouge, Outside}
 
 -- a move that is neither too deep nor slant goes below the surface and meets what it mustn't
 pub record Gouges (cone : Cone) (mv : Move) (Meets : Type 0) : Type 0 where

@@ -10,8 +10,8 @@ use crate::text::Text;
 use crate::values::{read_form, read_number, read_point, read_slope, read_units};
 use crate::words::WordsFault;
 use clap::ArgMatches;
-use grid_num::units::Units;
-use plane_exact::point::Point;
+use grid_num::Units;
+use plane_exact::Point;
 use std::alloc::Global;
 
 pub fn at_in(found: &ArgMatches) -> Option<Point>

@@ -1,13 +1,20 @@
-// The words of a command, read into a request: the command's name, and options with one value each.
+//! The words of a command, read into a request: the command's name, and options with one value each.
+//!
+//! The promise are the clauses of `read_words`: a request exactly where the words are those of a command, and its values.
+//! `law` says which words are accepted for sure.
 #![tactic(auto)]
 
 mod commands;
 mod found;
 pub mod law;
 mod options;
-pub mod request;
+mod request;
 #[cfg(test)]
 mod tests;
-pub mod text;
+mod text;
 mod values;
-pub mod words;
+mod words;
+
+pub use request::{DrawingOptions, FormWord, Request};
+pub use text::Text;
+pub use words::{WordsFault, read_words};

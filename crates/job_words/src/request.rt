@@ -1,8 +1,8 @@
 // What the words of a command ask for.
 
 use crate::text::Text;
-use grid_num::units::Units;
-use plane_exact::point::Point;
+use grid_num::Units;
+use plane_exact::Point;
 
 /// The form of a drawing's file.
 #[derive(Clone, Copy, Debug, PartialEq, Eq)]

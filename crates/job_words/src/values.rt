@@ -4,9 +4,8 @@ ghost use Rattle.plane_exact.specs.Cone.{IsFromOneTo};
 ghost use Rattle.job_words.specs.Values.{point_of, slope_of, from_one_to, number_of, form_named, units_named};
 
 use crate::request::FormWord;
-use grid_num::units::Units;
-use grid_num::whole::{read_whole, read_whole_pair};
-use plane_exact::point::Point;
+use grid_num::{Units, read_whole, read_whole_pair};
+use plane_exact::Point;
 
 /// `X,Y`: two coordinates.
 pub fn read_point(text: &str) -> Option<Point>

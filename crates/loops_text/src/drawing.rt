@@ -4,7 +4,7 @@ ghost use Rattle.std.specs.List.{list_any, slice_get};
 ghost use Rattle.engrave_model.specs.Drawing.{IsDrawing, edges_of, edges_of_loop};
 ghost use Rattle.loops_text.specs.Edges.{loop_number, push_fault, same_point};
 
-use plane_exact::point::{Point, Seg};
+use plane_exact::{Point, Seg};
 use std::alloc::{AllocError, Global};
 use std::marker::Model;
 

@@ -7,10 +7,8 @@ ghost use Rattle.grid_num.specs.Pieces.{words_of};
 ghost use Rattle.loops_text.specs.Loops.{closed, is_last, is_skipped, loop_of, loops_of, next_point, place_of_first, point_of};
 
 use crate::drawing::{Drawing, MOST_EDGES, PushFault, is_same_point};
-use grid_num::lines::{Lines, Words};
-use grid_num::pieces::Piece;
-use grid_num::whole::read_whole_pair;
-use plane_exact::point::Point;
+use grid_num::{Lines, Piece, Words, read_whole_pair};
+use plane_exact::Point;
 use std::alloc::{AllocFailed, Global};
 
 /// What is wrong with a text in loops form.

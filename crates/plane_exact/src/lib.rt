@@ -1,10 +1,22 @@
-// Exact geometry on the grid: points, segments and the conical bit, and comparisons that equal their rational meaning.
+//! Exact geometry on the grid: points, segments, straight moves and the conical bit, and comparisons that equal their
+//! rational meaning.
+//!
+//! The promise is the one clause of `dist_at_least`, `cross_kind` and `passes_through`, which speak of every rational point,
+//! and the `value` of `cross` and `dot`. The ranges are invariants of the types.
 #![tactic(auto)]
 
-pub mod bit;
-pub mod distance;
-pub mod meet;
-pub mod moves;
-pub mod point;
-pub mod product;
-pub mod segment;
+mod bit;
+mod distance;
+mod meet;
+mod moves;
+mod point;
+mod product;
+mod segment;
+
+pub use bit::Bit;
+pub use distance::dist_at_least;
+pub use meet::{Meet, cross_kind};
+pub use moves::{LineMove, Move, Place};
+pub use point::{Point, Seg};
+pub use product::{cross, dot};
+pub use segment::passes_through;

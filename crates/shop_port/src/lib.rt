@@ -1,4 +1,7 @@
-// The outside as a program sees it: files that are read, an output that is written, and fakes of both.
+//! The outside as a program sees it: files that are read, an output that is written, and fakes of both.
+//!
+//! The promise are the clauses of `load` and `send`: exactly the stored bytes are read, all bytes or a front part are written, and a
+//! fault comes only where the outside counted one. The traits `Depot` and `Sink` say what they rest on.
 #![tactic(auto)]
 
 mod depot;

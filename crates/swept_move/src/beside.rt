@@ -5,9 +5,7 @@ ghost use Rattle.engrave_model.specs.Clear.{IsTooDeep, PassesEdge};
 ghost use Rattle.swept_move.specs.Beside.{AreApart, IsBeside, IsSpan};
 
 use crate::tip::point;
-use plane_exact::bit::Bit;
-use plane_exact::moves::Move;
-use plane_exact::point::{Point, Seg};
+use plane_exact::{Bit, Move, Point, Seg};
 
 // Whether the edge lies at least the bit's greatest radius from the path on one side of it: left, right, below or above.
 // It takes no product, and holds of most edges of a drawing.

@@ -6,11 +6,8 @@ ghost use Rattle.engrave_model.specs.Depth.{IsEdgeClear};
 use crate::beside::is_beside;
 use crate::margin::margin_at;
 use crate::tip::{depth, point};
-use engrave_model::depth::is_edge_clear;
-use plane_exact::bit::Bit;
-use plane_exact::moves::Move;
-use plane_exact::point::{Point, Seg};
-use plane_exact::product::cross;
+use engrave_model::is_edge_clear;
+use plane_exact::{Bit, Move, Point, Seg, cross};
 
 /// Whether the move passes the tests against the edge: no disc at its ends holds a point of the edge, no disc on its way
 /// holds an end of the edge, and path and edge don't cross.

@@ -1,8 +1,13 @@
-// Straight moves of the bit against the edges of a drawing.
+//! Straight moves of the bit against the edges of a drawing.
+//!
+//! The promise is the clause of `clear_of`, the exact test of a move against an edge, and `law::swept_law`: a move that passes
+//! it removes no point of the edge, at any moment.
 #![tactic(auto)]
 
 mod beside;
-pub mod clear;
+mod clear;
 pub mod law;
 mod margin;
 mod tip;
+
+pub use clear::clear_of;

@@ -8,10 +8,7 @@ ghost use Rattle.swept_move.specs.Range.{IsMargin, IsScaled};
 ghost use Rattle.engrave_model.specs.Clear.{corner_margin, IsNowhereNegative};
 
 use crate::tip::{descent, point, signed_depth};
-use plane_exact::bit::Bit;
-use plane_exact::moves::Move;
-use plane_exact::point::Point;
-use plane_exact::product::dot;
+use plane_exact::{Bit, Move, Point, dot};
 
 // a s^2 + 2 half s + c at the moment s.
 #[derive(Clone, Copy)]

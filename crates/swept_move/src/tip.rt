@@ -2,9 +2,8 @@
 ghost use Rattle.std.specs.Prelude.{◌≡◌, ◌≤◌, pos, negsuc, ◌-ℤ◌, ◌≤ℤ◌};
 ghost use Rattle.engrave_model.specs.Clear.{depth_of};
 
-use engrave_model::depth::depth_of_height;
-use plane_exact::moves::{Move, Place};
-use plane_exact::point::Point;
+use engrave_model::depth_of_height;
+use plane_exact::{Move, Place, Point};
 
 // The point that the place is over.
 pub fn point(place: &Place) -> Point

@@ -3,7 +3,7 @@ use Rattle.std.proofs.Common.{subst}
 use Rattle.engrave_model.specs.Drawing.{edges_of}
 use Rattle.gouge_checker.proofs.Safety.{clear_code_is_safe}
 use Rattle.gouge_checker.specs.Verdict.{IsVerdict}
-use Rattle.gouge_checker.proofs.check.check.Goals as goal
+use Rattle.gouge_checker.proofs.verdict.check.Goals as goal
 
 pub returns-clause-safe : goal.returns-clause-safe
 returns-clause-safe c = λ clear.

@@ -6,12 +6,9 @@ ghost use Rattle.plane_exact.specs.Heights.{IsHeight};
 ghost use Rattle.engrave_model.specs.Removal.{IsSafeCode};
 ghost use Rattle.gouge_checker.specs.Verdict.{IsVerdict, IsVerdictOfMove};
 
-use depth_rule::met::{Met, first_met, is_deep};
-use depth_rule::scene::Scene;
-use engrave_model::depth::depth_of_height;
-use plane_exact::bit::Bit;
-use plane_exact::moves::{LineMove, Move};
-use plane_exact::point::Point;
+use depth_rule::{Met, Scene, first_met, is_deep};
+use engrave_model::depth_of_height;
+use plane_exact::{Bit, LineMove, Move, Point};
 
 /// What `check` says of code: `line` counts from 1, `edge` from 0.
 #[derive(Clone, Copy, Debug, PartialEq, Eq)]
