@@ -31,8 +31,8 @@ front_more (Some file) bytes into rest at n (Got m) got there front piece within
     let len : length (bytes ++ take n into) ≡ length bytes + n = simp (length-append, length-take) (omega arith) in
     rw (take-append-le n into rest within) (rw len (take-add (length bytes) n file ∙ cc (front, same)))
 
--- the same at a depot that may tell nothing
-pub front_more_told : (held : Option (List ℕ → Option (List ℕ))) (name bytes into rest : List ℕ) (at n : ℕ) (fetch : Fetch) → fetch ≡ Got n → at ≡ length bytes → IfSome held (λ files. IsPieceOf (files name) at into fetch) → IfGot fetch (λ n. n ≤ length into) → IfSome held (λ files. IsFront (files name) bytes → IsFront (files name) (bytes ++ take n (into ++ rest)))
-front_more_told None name bytes into rest at n fetch got there piece within = tt
-front_more_told (Some files) name bytes into rest at n fetch got there piece within =
+-- the same at a depot of which what it holds may not be known
+pub front_more_known : (held : Option (List ℕ → Option (List ℕ))) (name bytes into rest : List ℕ) (at n : ℕ) (fetch : Fetch) → fetch ≡ Got n → at ≡ length bytes → IfSome held (λ files. IsPieceOf (files name) at into fetch) → IfGot fetch (λ n. n ≤ length into) → IfSome held (λ files. IsFront (files name) bytes → IsFront (files name) (bytes ++ take n (into ++ rest)))
+front_more_known None name bytes into rest at n fetch got there piece within = tt
+front_more_known (Some files) name bytes into rest at n fetch got there piece within =
     λ front. front_more (files name) bytes into rest at n fetch got there front piece (rw got at within)

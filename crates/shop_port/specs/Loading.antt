@@ -8,21 +8,21 @@ abbrev pub file_within : ℕ → Option (List ℕ) → Result (List ℕ) LoadFau
 file_within cap None = Err Absent
 file_within cap (Some file) = if nat_lt cap (length file) then Err TooLong else Ok file
 
--- the answer is the one that is due, or a read failed, or memory ran out
-abbrev pub IsDue : {V : Type 0} → (V → List ℕ) → Result (List ℕ) LoadFault → Result V LoadFault → Type 0
-IsDue bytes due (Ok v) = due ≡ Ok (bytes v)
-IsDue bytes due (Err Absent) = due ≡ Err Absent
-IsDue bytes due (Err TooLong) = due ≡ Err TooLong
-IsDue bytes due (Err ReadFault) = Unit {0}
-IsDue bytes due (Err Memory) = Unit {0}
+-- the answer is the expected one, or a read failed, or memory ran out
+abbrev pub IsExpected : {V : Type 0} → (V → List ℕ) → Result (List ℕ) LoadFault → Result V LoadFault → Type 0
+IsExpected bytes expected (Ok v) = expected ≡ Ok (bytes v)
+IsExpected bytes expected (Err Absent) = expected ≡ Err Absent
+IsExpected bytes expected (Err TooLong) = expected ≡ Err TooLong
+IsExpected bytes expected (Err ReadFault) = Unit {0}
+IsExpected bytes expected (Err Memory) = Unit {0}
 
--- the answer is the one that is due, or memory ran out
-abbrev pub IsDueOrMemory : {V : Type 0} → (V → List ℕ) → Result (List ℕ) LoadFault → Result V LoadFault → Type 0
-IsDueOrMemory bytes due (Ok v) = due ≡ Ok (bytes v)
-IsDueOrMemory bytes due (Err Absent) = due ≡ Err Absent
-IsDueOrMemory bytes due (Err TooLong) = due ≡ Err TooLong
-IsDueOrMemory bytes due (Err ReadFault) = ⊥
-IsDueOrMemory bytes due (Err Memory) = Unit {0}
+-- the answer is the expected one, or memory ran out
+abbrev pub IsExpectedOrMemory : {V : Type 0} → (V → List ℕ) → Result (List ℕ) LoadFault → Result V LoadFault → Type 0
+IsExpectedOrMemory bytes expected (Ok v) = expected ≡ Ok (bytes v)
+IsExpectedOrMemory bytes expected (Err Absent) = expected ≡ Err Absent
+IsExpectedOrMemory bytes expected (Err TooLong) = expected ≡ Err TooLong
+IsExpectedOrMemory bytes expected (Err ReadFault) = ⊥
+IsExpectedOrMemory bytes expected (Err Memory) = Unit {0}
 
 -- the bytes are the front of the file
 abbrev pub IsFront : Option (List ℕ) → List ℕ → Type 0

@@ -16,18 +16,21 @@ most_per_read depot = depot.per_call
 abbrev pub failing_reads : MemDepot → List ℕ
 failing_reads depot = depot.schedule.failing.items
 
+-- how many reads were asked for
 abbrev pub reads_made : MemDepot → ℕ
 reads_made depot = depot.schedule.calls
 
+-- how many of them failed
 abbrev pub reads_failed : MemDepot → ℕ
 reads_failed depot = depot.schedule.faults
 
+-- how many of them found no such name
 abbrev pub names_missed : MemDepot → ℕ
 names_missed depot = depot.misses
 
--- the bytes taken so far
-abbrev pub taken_by : MemSink → List ℕ
-taken_by sink = sink.bytes.items
+-- the bytes written so far
+abbrev pub bytes_of : MemSink → List ℕ
+bytes_of sink = sink.bytes.items
 
 -- how many bytes it can take before it needs memory
 abbrev pub capacity_of : MemSink → ℕ
@@ -41,8 +44,10 @@ most_per_write sink = sink.per_call
 abbrev pub failing_writes : MemSink → List ℕ
 failing_writes sink = sink.schedule.failing.items
 
+-- how many writes were asked for
 abbrev pub writes_made : MemSink → ℕ
 writes_made sink = sink.schedule.calls
 
+-- how many of them failed
 abbrev pub writes_failed : MemSink → ℕ
 writes_failed sink = sink.schedule.faults

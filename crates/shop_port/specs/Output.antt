@@ -1,7 +1,7 @@
--- What an output has taken, None where it doesn't tell.
+-- What was written to an output, None where that isn't known.
 use Rattle.std.specs.Prelude.{◌≡◌, ◌<◌, ◌+◌, nat_le, if◌then◌else◌, ℕ, List, ◌++◌, length, take, Option, None, Some}
 
--- The bytes were added at the end. A sink may stop telling; one that has stopped doesn't tell again.
+-- The bytes were added at the end. What was written may cease to be known, and then isn't known again.
 abbrev pub Appended : Option (List ℕ) → Option (List ℕ) → List ℕ → Type 0
 Appended (Some old) (Some new) bytes = new ≡ old ++ bytes
 Appended None (Some new) bytes = ⊥
@@ -13,7 +13,7 @@ pub record AppendedPart (old new : Option (List ℕ)) (bytes : List ℕ) : Type 
   pub part : count < length bytes
   pub appended : Appended old new (take count bytes)
 
--- A sink with a room tells as long as all that it took fits there, and then no more.
-abbrev pub TellsWithin : ℕ → Option (List ℕ) → Option (List ℕ) → List ℕ → Type 0
-TellsWithin room None new bytes = new ≡ None
-TellsWithin room (Some old) new bytes = new ≡ (if nat_le (length old + length bytes) room then Some (old ++ bytes) else None)
+-- What was written to a sink with a room is known as long as all of it fits there, and then no more.
+abbrev pub IsKnownWithin : ℕ → Option (List ℕ) → Option (List ℕ) → List ℕ → Type 0
+IsKnownWithin room None new bytes = new ≡ None
+IsKnownWithin room (Some old) new bytes = new ≡ (if nat_le (length old + length bytes) room then Some (old ++ bytes) else None)

@@ -1,4 +1,4 @@
--- What the depot and the sink that never fail have besides what they tell.
+-- What the depot and the sink that never fail have besides what is known of them by their traits.
 use Rattle.std.specs.Prelude.{ℕ, List, if◌then◌else◌, Option, None, Some}
 use Rattle.shop_port.specs.Files.{files_of}
 use Rattle.shop_port.specs.declared.sure.SureDepot.{SureDepot}
@@ -20,10 +20,10 @@ per_read depot = depot.per_call
 abbrev pub per_write : SureSink → ℕ
 per_write sink = sink.per_call
 
--- how many bytes it can tell of
+-- up to how many bytes it is known what was written
 abbrev pub room_of : SureSink → ℕ
 room_of sink = sink.room
 
 -- what it took, unless that went past its room
-abbrev pub told_by : SureSink → Option (List ℕ)
-told_by sink = if sink.is_telling then Some sink.bytes.items else None
+abbrev pub written_to : SureSink → Option (List ℕ)
+written_to sink = if sink.is_known then Some sink.bytes.items else None

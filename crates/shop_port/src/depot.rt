@@ -18,8 +18,7 @@ pub struct Failed;
 
 /// Named files. Whatever a depot holds, it stays as it is.
 pub trait Depot {
-    /// The bytes under each name, None where there is no such file; None in all where the depot
-    /// doesn't tell.
+    /// The bytes under each name, None where there is no such file; None in all where they aren't known.
     ghost held: { Self → Option (List ℕ → Option (List ℕ)) };
 
     /// How often a read has failed.
@@ -31,9 +30,9 @@ pub trait Depot {
     /// Reads bytes of a file, from the offset `at` on, to the front of `into`. After an `Err` the
     /// buffer may hold anything.
     fn read(&mut self, name: &str, at: u64, into: &mut [u8]) -> Result<Fetch, Failed>
-        ensures within { IfOk result (λ fetch. IfGot fetch (λ n. n ≤ length into.new)) }
-        ensures told { IfOk result (λ fetch. IfSome (held self.old) (λ files. IsPieceOf (files name.now) at into.new fetch)) }
-        ensures same { held self.new ≡ held self.old }
+        ensures range { IfOk result (λ fetch. IfGot fetch (λ n. n ≤ length into.new)) }
+        ensures value { IfOk result (λ fetch. IfSome (held self.old) (λ files. IsPieceOf (files name.now) at into.new fetch)) }
+        ensures unchanged { held self.new ≡ held self.old }
         ensures absent { IfOk result (λ fetch. IfAbsent fetch (Rose (misses self.old) (misses self.new))) }
         ensures failed { OnErr result (Rose (faults self.old) (faults self.new)) }
         ensures misses { misses self.old ≤ misses self.new }

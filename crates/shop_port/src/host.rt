@@ -1,4 +1,4 @@
-// The host's files and an output of it. They tell no content.
+// The host's files and an output of it. Nothing is known of their content.
 ghost use Rattle.std.specs.Prelude.{◌≡◌, ◌≤◌, length, None, IfOk};
 
 use crate::{Depot, Failed, Fetch, Sink};

@@ -1,7 +1,7 @@
 // Loads a whole file, up to a cap.
 ghost use Rattle.std.specs.Prelude.{◌≡◌, ◌≤◌, ◌<◌, ◌+◌, List, [], ℕ, length, IfOk, IfSome, OnOk, IsErrOf};
 ghost use Rattle.shop_port.specs.Counts.{Rose};
-ghost use Rattle.shop_port.specs.Loading.{file_within, IsDue, IsDueOrMemory, IsFront};
+ghost use Rattle.shop_port.specs.Loading.{file_within, IsExpected, IsExpectedOrMemory, IsFront};
 ghost use Rattle.shop_port.specs.declared.loading.LoadFault.TheVariants.{Absent, Memory, ReadFault, TooLong};
 
 use crate::{Depot, Fetch};
@@ -39,11 +39,11 @@ pub fn load<D: Depot>(
     name: &str,
     cap: u64,
 ) -> Result<Vec<u8>, LoadFault>
-    ensures told { IfSome (D.held depot.old) (λ files. IsDue (λ v. v.items) (file_within cap (files name.now)) result) }
+    ensures value { IfSome (D.held depot.old) (λ files. IsExpected (λ v. v.items) (file_within cap (files name.now)) result) }
     ensures complete { IfSome (D.held depot.old) (λ files. (Rose (D.faults depot.old) (D.faults depot.new) → ⊥)
-        → IsDueOrMemory (λ v. v.items) (file_within cap (files name.now)) result) }
+        → IsExpectedOrMemory (λ v. v.items) (file_within cap (files name.now)) result) }
     ensures capped { IfOk result (λ v. length v.items ≤ cap) }
-    ensures same { D.held depot.new ≡ D.held depot.old }
+    ensures unchanged { D.held depot.new ≡ D.held depot.old }
     ensures absent { IsErrOf result Absent → Rose (D.misses depot.old) (D.misses depot.new) }
     ensures failed { IsErrOf result ReadFault → Rose (D.faults depot.old) (D.faults depot.new) }
     ensures misses { D.misses depot.old ≤ D.misses depot.new }
@@ -72,9 +72,9 @@ fn read_to_end<D: Depot>(
 ) -> Result<(), LoadFault>
     requires room { 0 < length piece.old }
     requires empty { bytes.old.items ≡ [] }
-    ensures told { IfSome (D.held depot.old) (λ files. IsDue (λ _. bytes.new.items) (file_within cap (files name.now)) result) }
+    ensures value { IfSome (D.held depot.old) (λ files. IsExpected (λ _. bytes.new.items) (file_within cap (files name.now)) result) }
     ensures capped { OnOk result (length bytes.new.items ≤ cap) }
-    ensures same { D.held depot.new ≡ D.held depot.old }
+    ensures unchanged { D.held depot.new ≡ D.held depot.old }
     ensures absent { IsErrOf result Absent → Rose (D.misses depot.old) (D.misses depot.new) }
     ensures failed { IsErrOf result ReadFault → Rose (D.faults depot.old) (D.faults depot.new) }
     ensures misses { D.misses depot.old ≤ D.misses depot.new }
@@ -105,7 +105,7 @@ fn read_piece<D: Depot>(
         → IfOk result (λ n. n ≡ 0 → file_within cap (files name.now) ≡ Ok bytes.new.items)) }
     ensures no_file { IfSome (D.held depot.old) (λ files. IsErrOf result Absent → files name.now ≡ None) }
     ensures not_long { IsErrOf result TooLong → ⊥ }
-    ensures same { D.held depot.new ≡ D.held depot.old }
+    ensures unchanged { D.held depot.new ≡ D.held depot.old }
     ensures absent { IsErrOf result Absent → Rose (D.misses depot.old) (D.misses depot.new) }
     ensures failed { IsErrOf result ReadFault → Rose (D.faults depot.old) (D.faults depot.new) }
     ensures misses { D.misses depot.old ≤ D.misses depot.new }
@@ -126,7 +126,7 @@ fn read_piece<D: Depot>(
 /// How many bytes to ask for, where `left` more may come: one more than that, as far as there is room.
 fn wanted(left: u64, room: usize) -> usize
     requires { 0 < room }
-    ensures within { result ≤ room }
+    ensures range { result ≤ room }
     ensures some { 0 < result }
     ensures one_more { result ≤ left + 1 }
 {

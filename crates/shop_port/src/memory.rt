@@ -1,10 +1,10 @@
-// A depot and a sink in memory whose calls fail where they are told to.
+// A depot and a sink in memory of which named calls fail.
 ghost use Rattle.std.specs.Prelude.{◌≡◌, ◌≤◌, ◌<◌, ◌+◌, ◌⊎◌, ◌++◌, [], length, take, min, true, IfOk, OnErr, IsErr, is_err, if◌then◌else◌, None, Some};
 ghost use Rattle.shop_port.specs.Counts.{Rose, one_more, is_listed};
 ghost use Rattle.shop_port.specs.Files.{files_of, IfGot, IfAbsent, IsPieceOf, missed_after};
 
-use crate::held::read_held;
 use crate::schedule::Schedule;
+use crate::stored::read_stored;
 use crate::{Depot, Failed, Fetch, Sink};
 use std::alloc::Global;
 use std::collections::BTreeMap;
@@ -52,9 +52,9 @@ impl Depot for MemDepot {
     ghost misses = { names_missed };
 
     fn read(&mut self, name: &str, at: u64, into: &mut [u8]) -> Result<Fetch, Failed>
-        ensures within { IfOk result (λ fetch. IfGot fetch (λ n. n ≤ length into.new)) }
-        ensures told { IfOk result (λ fetch. IsPieceOf (files_in self.old name.now) at into.new fetch) }
-        ensures same { files_in self.new ≡ files_in self.old }
+        ensures range { IfOk result (λ fetch. IfGot fetch (λ n. n ≤ length into.new)) }
+        ensures value { IfOk result (λ fetch. IsPieceOf (files_in self.old name.now) at into.new fetch) }
+        ensures unchanged { files_in self.new ≡ files_in self.old }
         ensures absent { IfOk result (λ fetch. IfAbsent fetch (Rose (names_missed self.old) (names_missed self.new))) }
         ensures failed { OnErr result (Rose (reads_failed self.old) (reads_failed self.new)) }
         ensures misses { names_missed self.old ≤ names_missed self.new }
@@ -72,7 +72,7 @@ impl Depot for MemDepot {
         if self.schedule.next_fails() {
             return Err(Failed);
         }
-        Ok(read_held(&self.files, self.per_call, &mut self.misses, name, at, into))
+        Ok(read_stored(&self.files, self.per_call, &mut self.misses, name, at, into))
     }
 }
 
@@ -87,9 +87,9 @@ pub struct MemSink {
 }
 
 impl MemSink {
-    ghost use Rattle.shop_port.specs.Memory.{most_per_write, failing_writes, writes_made, taken_by};
+    ghost use Rattle.shop_port.specs.Memory.{most_per_write, failing_writes, writes_made, bytes_of};
 
-    /// A sink that has taken nothing yet, and takes memory as it needs it.
+    /// A sink to which nothing was written yet, and which takes memory as it needs it.
     pub fn new(alloc: Global, per_call: usize, failing: Vec<u64>) -> MemSink
         requires { 1 ≤ per_call }
         ensures written { ⟦<MemSink as Sink>⟧.written result ≡ Some [] }
@@ -105,26 +105,26 @@ impl MemSink {
         }
     }
 
-    /// What was taken so far.
+    /// What was written so far.
     pub fn bytes(&self) -> &[u8]
-        ensures { result.now ≡ taken_by self.now }
+        ensures { result.now ≡ bytes_of self.now }
     {
         &self.bytes
     }
 }
 
 impl Sink for MemSink {
-    ghost use Rattle.shop_port.specs.Memory.{most_per_write, failing_writes, writes_made, writes_failed, taken_by, capacity_of};
+    ghost use Rattle.shop_port.specs.Memory.{most_per_write, failing_writes, writes_made, writes_failed, bytes_of, capacity_of};
 
-    ghost written = { λ sink. Some (taken_by sink) };
+    ghost written = { λ sink. Some (bytes_of sink) };
 
     ghost faults = { writes_failed };
 
     fn write(&mut self, piece: &[u8]) -> Result<usize, Failed>
         ensures count { IfOk result (λ n. n ≡ min (most_per_write self.old) (length piece.now)) }
         ensures progress { IfOk result (λ n. 0 < length piece.now → 0 < n) }
-        ensures taken { IfOk result (λ n. taken_by self.new ≡ taken_by self.old ++ take n piece.now) }
-        ensures unchanged { OnErr result (taken_by self.new ≡ taken_by self.old) }
+        ensures value { IfOk result (λ n. bytes_of self.new ≡ bytes_of self.old ++ take n piece.now) }
+        ensures unchanged { OnErr result (bytes_of self.new ≡ bytes_of self.old) }
         ensures failed { OnErr result (Rose (writes_failed self.old) (writes_failed self.new)) }
         ensures faults { writes_failed self.old ≤ writes_failed self.new }
 
@@ -132,7 +132,7 @@ impl Sink for MemSink {
         ensures made { writes_made self.new ≡ one_more (writes_made self.old) }
         ensures listed { is_listed (writes_made self.new) (failing_writes self.old) ≡ true → IsErr result }
         ensures refused { OnErr result ((is_listed (writes_made self.new) (failing_writes self.old) ≡ true)
-            ⊎ (capacity_of self.old < length (taken_by self.old) + min (most_per_write self.old) (length piece.now))) }
+            ⊎ (capacity_of self.old < length (bytes_of self.old) + min (most_per_write self.old) (length piece.now))) }
         ensures each_fault { writes_failed self.new ≡ (if is_err result then one_more (writes_failed self.old) else writes_failed self.old) }
         ensures most { most_per_write self.new ≡ most_per_write self.old }
         ensures failing { failing_writes self.new ≡ failing_writes self.old }

@@ -28,7 +28,7 @@ impl Schedule {
         ensures listed { result ≡ is_listed self.new.calls self.old.failing.items }
         ensures faults { self.new.faults ≡ (if result then one_more self.old.faults else self.old.faults) }
         ensures rising { self.old.faults ≤ self.new.faults }
-        ensures same { self.new.failing.items ≡ self.old.failing.items }
+        ensures unchanged { self.new.failing.items ≡ self.old.failing.items }
     {
         self.calls = self.calls.saturating_add(1);
         let fails = self.failing.contains(&self.calls);

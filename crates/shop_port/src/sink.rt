@@ -7,7 +7,7 @@ use crate::Failed;
 
 /// An output.
 pub trait Sink {
-    /// The bytes taken so far; None where the sink doesn't tell.
+    /// The bytes written so far; None where they aren't known.
     ghost written: { Self → Option (List ℕ) };
 
     /// How often a write has failed.
@@ -15,7 +15,7 @@ pub trait Sink {
 
     /// Takes bytes from the front of `piece`, at least one where it has any, and says how many.
     fn write(&mut self, piece: &[u8]) -> Result<usize, Failed>
-        ensures within { IfOk result (λ n. n ≤ length piece.now) }
+        ensures range { IfOk result (λ n. n ≤ length piece.now) }
         ensures progress { IfOk result (λ n. 0 < length piece.now → 0 < n) }
         ensures appended { IfOk result (λ n. Appended (written self.old) (written self.new) (take n piece.now)) }
         ensures unchanged { OnErr result (written self.new ≡ written self.old) }

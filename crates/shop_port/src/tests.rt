@@ -1,10 +1,11 @@
 // The fakes with calls that fail in turn, and the host's files and output for real.
-ghost use Rattle.std.specs.Prelude.{◌≤◌};
+ghost use Rattle.std.specs.Prelude.{◌≤◌, None};
 
 use super::*;
 use std::alloc::Global;
 use std::collections::BTreeMap;
 use std::fs::{self, File};
+use std::io::{self, Write};
 use std::test::Fail;
 use std::{env, process};
 
@@ -88,13 +89,13 @@ fn sends_with_writes_failing_in_turn(rt: HostRuntime) -> Result<(), Fail> {
 }
 
 #[test]
-fn tells_what_fits_in_the_room(rt: HostRuntime) -> Result<(), Fail> {
-    for (room, is_told) in [(10, true), (9, false)] {
+fn what_fits_in_the_room_is_known(rt: HostRuntime) -> Result<(), Fail> {
+    for (room, is_known) in [(10, true), (9, false)] {
         let mut sink = SureSink::new(rt.alloc(), room, 7)?;
         assert_eq!(rt; send(&mut sink, TEXT.as_bytes()), Ok(()));
         assert_eq!(rt;
             sink.bytes() == Some(TEXT.as_bytes()),
-            is_told,
+            is_known,
             "room {room}"
         );
     }
@@ -139,6 +140,88 @@ fn a_folder_is_no_missing_name(rt: HostRuntime) {
         Ok(Fetch::Absent)
     );
     assert_eq!(rt; depot.read("/", 0, &mut [0; 8]), Err(Failed));
+}
+
+#[test]
+fn a_name_below_a_file_is_no_missing_name(rt: HostRuntime) -> Result<(), Fail> {
+    let path = scratch(&rt, "below")?;
+    fs::write(&rt, path.as_str(), TEXT)?;
+    let below = format!(in rt.alloc(); "{path}/x")?;
+    assert_eq!(rt;
+        HostDepot::new(&rt).read(&below, 0, &mut [0; 8]),
+        Err(Failed)
+    );
+    fs::remove_file(&rt, path.as_str())?;
+    Ok(())
+}
+
+/// A writer that takes no byte, and says so.
+#[derive(Drop)]
+struct FullWriter;
+
+impl Write for FullWriter {
+    fn write(&mut self, _piece: &[u8]) -> io::Result<usize> {
+        Ok(0)
+    }
+
+    fn flush(&mut self) -> io::Result<()> {
+        Ok(())
+    }
+}
+
+#[test]
+fn a_writer_that_takes_nothing_fails(rt: HostRuntime) {
+    let mut sink = HostSink::new(FullWriter);
+    assert_eq!(rt; sink.write(TEXT.as_bytes()), Err(Failed));
+    assert_eq!(rt; sink.write(&[]), Ok(0));
+}
+
+/// A file of so many bytes, and what was asked of it: the longest piece, and the farthest place.
+#[derive(Drop)]
+struct WatchedDepot {
+    length: u64,
+    longest: usize,
+    farthest: u64,
+}
+
+impl Depot for WatchedDepot {
+    ghost held = { λ _. None };
+
+    ghost faults = { λ _. 0 };
+
+    ghost misses = { λ _. 0 };
+
+    fn read(&mut self, _name: &str, at: u64, into: &mut [u8]) -> Result<Fetch, Failed> {
+        let room = into.len() as u64;
+        self.longest = self.longest.max(into.len());
+        self.farthest = self.farthest.max(at.saturating_add(room));
+        Ok(Fetch::Got(room.min(self.length.saturating_sub(at)) as usize))
+    }
+}
+
+#[test]
+fn loads_in_short_pieces_and_no_farther_than_one_byte_past_the_cap(
+    rt: HostRuntime,
+) -> Result<(), Fail> {
+    for (length, cap, is_loaded, longest, farthest) in [
+        (200_000, 200_000, true, 65_536, 200_001),
+        (200_000, 100_000, false, 65_536, 100_001),
+        (9, 10, true, 11, 11),
+        (9, 8, false, 9, 9),
+    ] {
+        let mut depot = WatchedDepot {
+            length,
+            longest: 0,
+            farthest: 0,
+        };
+        let is_ok = load(rt.alloc(), &mut depot, NAME, cap).is_ok();
+        assert_eq!(rt;
+            (is_ok, depot.longest, depot.farthest),
+            (is_loaded, longest, farthest),
+            "{length} bytes, {cap} at most"
+        );
+    }
+    Ok(())
 }
 
 #[test]

@@ -7,7 +7,7 @@ use std::collections::BTreeMap;
 
 /// Copies bytes of a named file to the front of the buffer, `per_call` of them at most. Counts a name
 /// that isn't found.
-pub fn read_held(
+pub fn read_stored(
     files: &BTreeMap<String, Vec<u8>>,
     per_call: usize,
     misses: &mut u64,
@@ -16,8 +16,8 @@ pub fn read_held(
     into: &mut [u8],
 ) -> Fetch
     requires { 0 < per_call }
-    ensures told { IsPieceOf (files_of files.now name.now) at into.new result }
-    ensures within { IfGot result (λ n. n ≤ length into.new) }
+    ensures value { IsPieceOf (files_of files.now name.now) at into.new result }
+    ensures range { IfGot result (λ n. n ≤ length into.new) }
     ensures few { IfGot result (λ n. n ≤ per_call) }
     ensures missed { misses.new ≡ missed_after (Ok result) misses.old }
     ensures rising { misses.old ≤ misses.new }
