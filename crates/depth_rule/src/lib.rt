@@ -1,6 +1,6 @@
 //! The scene of a drawing: how deep the bit may go at a point of it, and the first edge that a move meets.
 //!
-//! The promise is the clause of `greatest_depth`, that the depth is the greatest that fits, and that of `first_met`, that the
+//! Its promise is the clause of `greatest_depth`, that the depth is the greatest that fits, and that of `first_met`, that the
 //! edge is the first against which the tests of a move fail.
 #![tactic(auto)]
 

@@ -1,4 +1,6 @@
-// The program: gives the words, the host's files and the standard output to the top call, and ends with its status.
+//! The program: gives the words, the host's files and the standard output to the top call, and ends with its status.
+//!
+//! It is proved never to panic. What it promises is the contract of `engrave_core::engrave`.
 #![tactic(auto)]
 
 use engrave_core::{engrave, status};

@@ -1,6 +1,6 @@
 //! Which points a drawing holds, and laws of the even-odd rule.
 //!
-//! The promise are the clauses of `inside` and `inside_ratio`, for points of the grid and between them, and the laws of `law`:
+//! Its promise is in the clauses of `inside` and `inside_ratio`, for points of the grid and between them, and the laws of `law`:
 //! along a path that meets no edge, inside doesn't change.
 #![tactic(auto)]
 

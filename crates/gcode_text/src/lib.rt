@@ -1,6 +1,6 @@
 //! G-code text: the profile of RS274/NGC that is read, and the moves that a text asks for.
 //!
-//! The promise are the clauses `moves` and `fault` of `Reader::finish`: exactly the moves of the bytes fed, however they were
+//! Its promise is in the clauses `moves` and `fault` of `Reader::finish`: exactly the moves of the bytes fed, however they were
 //! cut, or the fault of the first faulty line. `moves_in` says the same of a text that lies there whole.
 #![tactic(auto)]
 

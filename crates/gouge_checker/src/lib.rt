@@ -1,6 +1,6 @@
 //! Verdicts on G-code programs: that every move is clear, or what is wrong with the first that isn't.
 //!
-//! The promise are the clauses of `check`: `verdict`, exactly which, and `safe`, that a program called clear removes no point
+//! Its promise is in the clauses of `check`: `verdict`, exactly which, and `safe`, that a program called clear removes no point
 //! outside the drawing, at any moment.
 #![tactic(auto)]
 

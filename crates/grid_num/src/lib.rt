@@ -1,6 +1,6 @@
 //! Numbers of the grid in text, and the lines and words that they stand in.
 //!
-//! The promise is the one clause of `read_decimal`: the exact number times the scale, or the first fault that applies.
+//! Its promise is the one clause of `read_decimal`: the exact number times the scale, or the first fault that applies.
 #![tactic(auto)]
 
 mod decimal;

@@ -1,6 +1,6 @@
 //! The words of a command, read into a request: the command's name, and options with one value each.
 //!
-//! The promise are the clauses of `read_words`: a request exactly where the words are those of a command, and its values.
+//! Its promise is in the clauses of `read_words`: a request exactly where the words are those of a command, and its values.
 //! `law` says which words are accepted for sure.
 #![tactic(auto)]
 

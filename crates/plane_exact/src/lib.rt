@@ -1,7 +1,7 @@
 //! Exact geometry on the grid: points, segments, straight moves and the conical bit, and comparisons that equal their
 //! rational meaning.
 //!
-//! The promise is the one clause of `dist_at_least`, `cross_kind` and `passes_through`, which speak of every rational point,
+//! Its promise is the one clause of `dist_at_least`, `cross_kind` and `passes_through`, which speak of every rational point,
 //! and the `value` of `cross` and `dot`. The ranges are invariants of the types.
 #![tactic(auto)]
 

@@ -1,6 +1,6 @@
 //! Straight moves of the bit against the edges of a drawing.
 //!
-//! The promise is the clause of `clear_of`, the exact test of a move against an edge, and `law::swept_law`: a move that passes
+//! Its promise is the clause of `clear_of`, the exact test of a move against an edge, and `law::swept_law`: a move that passes
 //! it removes no point of the edge, at any moment.
 #![tactic(auto)]
 
