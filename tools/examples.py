@@ -6,7 +6,7 @@
 A case is a folder: README.md says in two sentences what it shows, `words` has the words of the command, one a line, `expected` the
 whole text that it writes, `status` its exit status if that isn't 0; the other files are those that it reads. Each command
 line `$ engrave_cli ..` in README.md and docs/ has to be the words of a case, and the lines under it, what the case writes. A
-block under a line `<!-- FILE -->` has to be that file of examples/.
+block under a line `<!-- FILE -->` has to be that file of examples/. Each case that docs/MESSAGES.md names beside a line has to write it.
 """
 
 import argparse
@@ -75,6 +75,18 @@ def document_faults(path, cases):
                 yield f"{words!r} writes {case.expected.decode()!r}"
 
 
+def message_faults(path, cases):
+    """What is wrong with the cases that the table of messages names: a capital word of a line stands for any number."""
+    named = {case.folder.name: case for case in cases}
+    for row in re.findall(r"^\| `([^`]+)` \|.*\| ([^|]*) \|$", path.read_text(), re.M):
+        line = re.compile(r"\S+".join(map(re.escape, re.split(r"\b[A-Z]+[0-9]?(?:,[A-Z][0-9])*\b", row[0]))))
+        for name in re.findall(r"`([^`]+)`", row[1]):
+            if name not in named:
+                yield f"there is no case {name}"
+            elif not any(line.fullmatch(written) for written in named[name].expected.decode().splitlines()):
+                yield f"the case {name} doesn't write `{row[0]}`"
+
+
 def main():
     parser = argparse.ArgumentParser(description=__doc__.splitlines()[0])
     parser.add_argument("--program", type=Path, default=BUILT)
@@ -85,6 +97,7 @@ def main():
     wrong = [f"{case.folder.name}: {fault}" for case in cases for fault in case.faults(program)]
     documents = [TOP / "README.md", *sorted((TOP / "docs").glob("*.md"))]
     wrong += [f"{path.name}: {fault}" for path in documents for fault in document_faults(path, cases)]
+    wrong += [f"MESSAGES.md: {fault}" for fault in message_faults(TOP / "docs/MESSAGES.md", cases)]
     print("\n".join(wrong + [f"examples: {len(cases)} cases, {len(documents)} documents, {len(wrong)} faults"]))
     sys.exit(1 if wrong else 0)
 
