@@ -3,7 +3,7 @@ use Rattle.std.specs.Prelude.{◌≡◌, ◌≢◌, ◌⊎◌, Option, Some, Non
 use Rattle.gouge_checker.specs.declared.verdict.Verdict.TheVariants as verdict
 use Rattle.job_words.specs.declared.request.Request.{Request}
 use Rattle.job_words.specs.declared.request.Request.TheVariants.{Probe, Moves, Check}
-use Rattle.loops_text.specs.declared.reader.LoopsKind.TheVariants as loops
+use Rattle.loops_text.specs.declared.fault.LoopsKind.TheVariants as loops
 use Rattle.engrave_core.specs.declared.outcome.InputFault.TheVariants.{TooLong, Loops, Code as CodeOf}
 use Rattle.engrave_core.specs.declared.outcome.Outcome.{Outcome}
 use Rattle.engrave_core.specs.declared.outcome.Outcome.TheVariants.{Done, NotClear, Usage, Input, Absent, ReadFault, WriteFault, Memory}

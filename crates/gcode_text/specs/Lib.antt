@@ -1,4 +1,5 @@
 -- The definitions of the crate.
+pub mod Faults
 pub mod Line
 pub mod Moves
 pub mod Profile

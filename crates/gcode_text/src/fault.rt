@@ -1,4 +1,6 @@
-// What keeps a text from being code of the profile.
+// What keeps a text from being a program of the profile, and the words that are printed for it.
+ghost use Rattle.std.specs.Prelude.{◌≡◌};
+ghost use Rattle.gcode_text.specs.Faults.{code_words};
 
 /// What is wrong with a line of code.
 #[derive(Clone, Copy, Debug, PartialEq, Eq)]
@@ -25,6 +27,27 @@ pub enum CodeKind {
     OpenComment,
     /// The line would give the 8,388,609th move.
     TooMany,
+}
+
+impl CodeKind {
+    /// The words that are printed for the kind.
+    pub fn words(self) -> &'static str
+        ensures { result.now ≡ code_words self }
+    {
+        match self {
+            CodeKind::Word => "word",
+            CodeKind::Number => "number",
+            CodeKind::OffGrid => "off grid",
+            CodeKind::Twice => "twice",
+            CodeKind::Units => "units",
+            CodeKind::Incremental => "incremental",
+            CodeKind::Unplaced => "unplaced",
+            CodeKind::OutOfRange => "out of range",
+            CodeKind::LongLine => "long line",
+            CodeKind::OpenComment => "open comment",
+            CodeKind::TooMany => "too many",
+        }
+    }
 }
 
 /// The first fault of a text: the number of its line, from 1, and what is wrong with it.

@@ -9,7 +9,7 @@ use Rattle.plane_exact.specs.Plane.{GridPoint}
 use Rattle.engrave_model.specs.Drawing.{edges_back_to, edges_of_loop, most_edges}
 use Rattle.loops_text.specs.Edges.{push_fault, same_point}
 use Rattle.loops_text.specs.Loops.{closed, is_last, loop_of, next_point, point_of, points_of}
-use Rattle.loops_text.specs.declared.reader.LoopsFault.{LoopsFault}
+use Rattle.loops_text.specs.declared.fault.LoopsFault.{LoopsFault}
 use Rattle.loops_text.proofs.Drawings.{push_fault-None}
 
 -- some point equals the one before it

@@ -9,7 +9,7 @@ use Rattle.loops_text.specs.Edges.{push_fault, same_point}
 use Rattle.loops_text.specs.Loops.{is_last, is_skipped, loop_of, loops_from, next_point, place_of_first, place_of_last, points_of}
 use Rattle.loops_text.proofs.Drawings.{length-edges_of}
 use Rattle.loops_text.proofs.Judged.{push_fault-after_loop_of}
-use Rattle.loops_text.specs.declared.reader.LoopsFault.{LoopsFault}
+use Rattle.loops_text.specs.declared.fault.LoopsFault.{LoopsFault}
 
 -- the place of the last of the words, or the given one where there is none
 abbrev pub last_place : ℕ → List Piece → ℕ

@@ -1,4 +1,5 @@
 -- The definitions of the crate.
 pub mod Edges
+pub mod Faults
 pub mod Kept
 pub mod Loops

@@ -6,9 +6,9 @@ use Rattle.grid_num.specs.Whole.{pair_of}
 use Rattle.plane_exact.specs.Plane.{GridPoint, is_coordinate}
 use Rattle.engrave_model.specs.Drawing.{most_edges}
 use Rattle.loops_text.specs.Edges.{same_point}
-use Rattle.loops_text.specs.declared.reader.LoopsFault.{LoopsFault}
-use Rattle.loops_text.specs.declared.reader.LoopsKind.{LoopsKind}
-use Rattle.loops_text.specs.declared.reader.LoopsKind.TheVariants.{Syntax, Short, SamePoint, OutOfRange, TooMany}
+use Rattle.loops_text.specs.declared.fault.LoopsFault.{LoopsFault}
+use Rattle.loops_text.specs.declared.fault.LoopsKind.{LoopsKind}
+use Rattle.loops_text.specs.declared.fault.LoopsKind.TheVariants.{Syntax, Short, SamePoint, OutOfRange, TooMany}
 
 -- a line is skipped where it has no word, or where its first word begins with '#' (35)
 abbrev pub is_skipped : List Piece → Bool

@@ -5,9 +5,11 @@
 #![tactic(auto)]
 
 mod drawing;
+mod fault;
 mod reader;
 #[cfg(test)]
 mod tests;
 
 pub use drawing::{Drawing, PushFault};
-pub use reader::{LoopsFault, LoopsKind, read_loops};
+pub use fault::{LoopsFault, LoopsKind};
+pub use reader::read_loops;

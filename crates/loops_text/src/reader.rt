@@ -7,50 +7,10 @@ ghost use Rattle.grid_num.specs.Pieces.{words_of};
 ghost use Rattle.loops_text.specs.Loops.{closed, is_last, is_skipped, loop_of, loops_of, next_point, place_of_first, point_of};
 
 use crate::drawing::{Drawing, MOST_EDGES, PushFault, is_same_point};
+use crate::fault::{LoopsFault, LoopsKind, OUT_OF_MEMORY};
 use grid_num::{Lines, Piece, Words, read_whole_pair};
 use plane_exact::Point;
-use std::alloc::{AllocFailed, Global};
-
-/// What is wrong with a text in loops form.
-#[derive(Clone, Copy, Debug, PartialEq, Eq)]
-pub enum LoopsKind {
-    /// The word isn't two whole numbers of at most nine digits with a comma between them.
-    Syntax,
-    /// The loop has fewer than two points.
-    Short,
-    /// The point equals the one before it in its loop; at a line's last word, also the loop's first one.
-    SamePoint,
-    /// A number is no coordinate.
-    OutOfRange,
-    /// The point is the file's 131,073rd.
-    TooMany,
-    /// Memory ran out. No line is ever printed for it.
-    Memory,
-}
-
-/// The first fault of a text in loops form; or that memory ran out, which isn't the text's fault, and for which no line is
-/// ever printed.
-#[derive(Clone, Copy, Debug, PartialEq, Eq)]
-pub struct LoopsFault {
-    /// The place of the faulty word in the text, in bytes from 0; 0 for want of memory.
-    pub at: u32,
-    pub kind: LoopsKind,
-}
-
-impl<T: Drop> From<AllocFailed<T>> for LoopsFault {
-    ghost use Rattle.loops_text.specs.declared.reader.LoopsKind.TheVariants.{Memory};
-
-    ghost from_gives = { λ _ fault. fault ≡ record { at = 0; kind = Memory } };
-
-    fn from(_error: AllocFailed<T>) -> LoopsFault {
-        OUT_OF_MEMORY
-    }
-}
-
-const OUT_OF_MEMORY: LoopsFault = LoopsFault {
-    at: 0,
-    kind: LoopsKind::Memory,
-};
+use std::alloc::Global;
 
 /// The drawing of a text of at most 16,777,216 bytes, or its first fault.
 pub fn read_loops(alloc: Global, bytes: &[u8]) -> Result<Drawing, LoopsFault>
