@@ -6,46 +6,24 @@ use Rattle.engrave_core.specs.declared.outcome.Outcome.{Outcome}
 use Rattle.engrave_core.specs.declared.outcome.Outcome.TheVariants.{Done, NotClear, Usage, Input, Absent, ReadFault, WriteFault, Memory}
 use Rattle.engrave_core.specs.declared.outcome.Which.{Which}
 use Rattle.engrave_core.specs.declared.outcome.Which.TheVariants as which
+use Rattle.gcode_text.specs.Faults.{code_tail}
 use Rattle.gcode_text.specs.declared.fault.CodeFault.{CodeFault}
-use Rattle.gcode_text.specs.declared.fault.CodeKind.{CodeKind}
-use Rattle.gcode_text.specs.declared.fault.CodeKind.TheVariants as code
 use Rattle.gouge_checker.specs.declared.verdict.Verdict.{Verdict}
 use Rattle.gouge_checker.specs.declared.verdict.Verdict.TheVariants as verdict
-use Rattle.loops_text.specs.declared.reader.LoopsFault.{LoopsFault}
-use Rattle.loops_text.specs.declared.reader.LoopsKind.{LoopsKind}
-use Rattle.loops_text.specs.declared.reader.LoopsKind.TheVariants as loops
+use Rattle.loops_text.specs.Faults.{loops_tail}
+use Rattle.loops_text.specs.declared.fault.LoopsFault.{LoopsFault}
 
 abbrev pub which_line : List ℕ → Which → List ℕ
 which_line refusal which.Drawing = refusal ++ codes " drawing\n"
 which_line refusal which.Code = refusal ++ codes " code\n"
 
--- no run writes the word of `Memory`, which the program tells as the outcome `Memory`
-abbrev pub loops_words : LoopsKind → List ℕ
-loops_words loops.Syntax = codes "syntax"
-loops_words loops.Short = codes "short"
-loops_words loops.SamePoint = codes "same point"
-loops_words loops.OutOfRange = codes "out of range"
-loops_words loops.TooMany = codes "too many"
-loops_words loops.Memory = codes "memory"
-
+-- the line of a fault of the drawing
 abbrev pub loops_line : LoopsFault → List ℕ
-loops_line fault = codes "input loops " ++ decimal fault.at ++ codes " " ++ loops_words fault.kind ++ codes "\n"
+loops_line fault = codes "input loops " ++ loops_tail fault ++ codes "\n"
 
-abbrev pub code_words : CodeKind → List ℕ
-code_words code.Word = codes "word"
-code_words code.Number = codes "number"
-code_words code.OffGrid = codes "off grid"
-code_words code.Twice = codes "twice"
-code_words code.Units = codes "units"
-code_words code.Incremental = codes "incremental"
-code_words code.Unplaced = codes "unplaced"
-code_words code.OutOfRange = codes "out of range"
-code_words code.LongLine = codes "long line"
-code_words code.OpenComment = codes "open comment"
-code_words code.TooMany = codes "too many"
-
+-- the line of a fault of the G-code program
 abbrev pub code_line : CodeFault → List ℕ
-code_line fault = codes "input code line " ++ decimal fault.line ++ codes " " ++ code_words fault.kind ++ codes "\n"
+code_line fault = codes "input code line " ++ code_tail fault ++ codes "\n"
 
 abbrev pub input_line : InputFault → List ℕ
 input_line (TooLong which) = which_line (codes "input too long") which

@@ -1,11 +1,11 @@
 // The lines that tell a refusal.
 ghost use Rattle.std.specs.Prelude.{◌≡◌, string_bytes, IfOk, MatchOption};
-ghost use Rattle.engrave_core.specs.Line.{line_of, input_line, loops_line, loops_words, code_line, code_words, verdict_line};
+ghost use Rattle.engrave_core.specs.Line.{line_of, input_line, loops_line, code_line, verdict_line};
 
 use crate::outcome::{InputFault, Outcome, Which};
-use gcode_text::{CodeFault, CodeKind};
+use gcode_text::CodeFault;
 use gouge_checker::Verdict;
-use loops_text::{LoopsFault, LoopsKind};
+use loops_text::LoopsFault;
 use std::alloc::{AllocError, Global};
 
 /// The line of a refusal; empty for an outcome that has none.
@@ -38,48 +38,16 @@ fn line_of_loops(alloc: Global, fault: &LoopsFault) -> Result<String, AllocError
     ensures { IfOk result (λ line. string_bytes line ≡ loops_line fault.now) }
 {
     let at = fault.at;
-    let words = words_of_loops_kind(fault.kind);
+    let words = fault.kind.words();
     format!(in alloc; "input loops {at} {words}\n")
-}
-
-/// No run writes the word of `Memory`, which `read_drawing` tells as the outcome `Memory`.
-fn words_of_loops_kind(kind: LoopsKind) -> &'static str
-    ensures { result.now ≡ loops_words kind }
-{
-    match kind {
-        LoopsKind::Syntax => "syntax",
-        LoopsKind::Short => "short",
-        LoopsKind::SamePoint => "same point",
-        LoopsKind::OutOfRange => "out of range",
-        LoopsKind::TooMany => "too many",
-        LoopsKind::Memory => "memory",
-    }
 }
 
 fn line_of_code(alloc: Global, fault: &CodeFault) -> Result<String, AllocError>
     ensures { IfOk result (λ line. string_bytes line ≡ code_line fault.now) }
 {
     let line = fault.line;
-    let words = words_of_code_kind(fault.kind);
+    let words = fault.kind.words();
     format!(in alloc; "input code line {line} {words}\n")
-}
-
-fn words_of_code_kind(kind: CodeKind) -> &'static str
-    ensures { result.now ≡ code_words kind }
-{
-    match kind {
-        CodeKind::Word => "word",
-        CodeKind::Number => "number",
-        CodeKind::OffGrid => "off grid",
-        CodeKind::Twice => "twice",
-        CodeKind::Units => "units",
-        CodeKind::Incremental => "incremental",
-        CodeKind::Unplaced => "unplaced",
-        CodeKind::OutOfRange => "out of range",
-        CodeKind::LongLine => "long line",
-        CodeKind::OpenComment => "open comment",
-        CodeKind::TooMany => "too many",
-    }
 }
 
 fn line_of_verdict(alloc: Global, verdict: &Verdict) -> Result<String, AllocError>

@@ -8,7 +8,7 @@ use Rattle.engrave_core.proofs.line.line_of_code.Goals as goal
 pub returns : goal.returns
 returns c =
     IfOk-bytes string_bytes c.format.result
-    (codes "input code line " ++ (decimal c.args.fault.now.line ++ (codes " " ++ (c.words_of_code_kind-words.result.now ++ codes "\n"))))
+    (codes "input code line " ++ (decimal c.args.fault.now.line ++ (codes " " ++ (c.words-words.result.now ++ codes "\n"))))
     (code_line c.args.fault.now)
-    (rw c.words_of_code_kind-words.ensures (sym (simp append_assoc)))
+    (rw c.words-words.ensures (sym (simp append_assoc)))
     c.format.ensures.ok

@@ -8,7 +8,7 @@ use Rattle.engrave_core.proofs.line.line_of_loops.Goals as goal
 pub returns : goal.returns
 returns c =
     IfOk-bytes string_bytes c.format.result
-    (codes "input loops " ++ (decimal c.args.fault.now.at ++ (codes " " ++ (c.words_of_loops_kind-words.result.now ++ codes "\n"))))
+    (codes "input loops " ++ (decimal c.args.fault.now.at ++ (codes " " ++ (c.words-words.result.now ++ codes "\n"))))
     (loops_line c.args.fault.now)
-    (rw c.words_of_loops_kind-words.ensures (sym (simp append_assoc)))
+    (rw c.words-words.ensures (sym (simp append_assoc)))
     c.format.ensures.ok
