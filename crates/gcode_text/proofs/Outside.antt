@@ -3,7 +3,7 @@ use Rattle.std.proofs.Common.{◌≡◌, ℕ, ◌+◌, ◌<◌, Bool, true, fals
 use Rattle.std.specs.Prelude.{option_map}
 use Rattle.std.proofs.lemmas.Bool.{ne_eqb}
 use Rattle.std.proofs.lemmas.List.{at_drop_more, append-nil}
-use Rattle.grid_num.specs.Pieces.{is_blank}
+use Rattle.text_lines.specs.Pieces.{is_blank}
 use Rattle.gcode_text.specs.Line.{capital, outside_comments}
 
 -- what stood outside comments so far, and then that of the rest

@@ -2,7 +2,7 @@
 use Rattle.std.proofs.Common.{◌≡◌, ℕ, ◌+◌, ◌≤◌, Bool, true, false, cond, eqb, Option, Some, None, List, [], ◌∷◌, ◌++◌, length, Ok, Err, Result, sym, ap, ◌∙◌, refl, arith, append_assoc, length-append}
 use Rattle.std.proofs.lemmas.List.{append-nil, length-map}
 use Rattle.grid_num.specs.Judging.{and_then}
-use Rattle.grid_num.specs.Pieces.{Piece, pieces, with_first, lines_of}
+use Rattle.text_lines.specs.Pieces.{Piece, pieces, with_first, lines_of}
 use Rattle.grid_num.specs.declared.units.Units.{Units}
 use Rattle.plane_exact.specs.declared.moves.LineMove.{LineMove}
 use Rattle.gcode_text.specs.Moves.{and_later, in_line, judge_line, moved, moves_from, moves_of, nowhere}

@@ -1,7 +1,7 @@
 -- What stands in a line of code outside its comments, and the words it consists of.
 use Rattle.std.specs.Prelude.{ℕ, ◌-◌, Bool, true, false, ◌&&◌, ◌||◌, if◌then◌else◌, Option, Some, None, List, [], ◌∷◌, option_map, nat_le, ◌==◌}
 use Rattle.std.specs.Char.{is_ascii_digit}
-use Rattle.grid_num.specs.Pieces.{is_blank}
+use Rattle.text_lines.specs.Pieces.{is_blank}
 
 -- a small letter as the capital
 abbrev pub capital : ℕ → ℕ

@@ -1,7 +1,7 @@
 -- The moves of a text: its lines up to the first with M2 or M30, and the first fault where one has a fault.
 use Rattle.std.specs.Prelude.{ℕ, ◌+◌, Bool, false, not, ◌&&◌, ◌||◌, if◌then◌else◌, Option, Some, None, List, [], ◌∷◌, length, is_some, ℤ, pos, int_lt, nat_lt, nat_le, ◌==◌, Result, Ok, Err}
 use Rattle.grid_num.specs.Judging.{and_then}
-use Rattle.grid_num.specs.Pieces.{Piece, lines_of}
+use Rattle.text_lines.specs.Pieces.{Piece, lines_of}
 use Rattle.grid_num.specs.declared.units.Units.{Units}
 use Rattle.plane_exact.specs.Heights.{GridPlace}
 use Rattle.plane_exact.specs.declared.moves.LineMove.{LineMove}

@@ -1,7 +1,7 @@
 -- The moves of a program that is read in part, and of its lines that are left.
 use Rattle.std.specs.Prelude.{◌≡◌, ◌+◌, Option, List, [], ◌++◌, length, Result, Ok}
 use Rattle.grid_num.specs.Judging.{and_then}
-use Rattle.grid_num.specs.Pieces.{Piece}
+use Rattle.text_lines.specs.Pieces.{Piece}
 use Rattle.plane_exact.specs.declared.moves.LineMove.{LineMove}
 use Rattle.gcode_text.specs.Moves.{and_later, moved, moves_from}
 use Rattle.gcode_text.specs.declared.fault.CodeFault.{CodeFault}

@@ -1,6 +1,6 @@
 // A line of code without its comments and blanks, in capitals.
 ghost use Rattle.std.specs.Prelude.{◌≡◌, IfOk, false, Some, None, if◌then◌else◌};
-ghost use Rattle.grid_num.specs.Pieces.{is_blank};
+ghost use Rattle.text_lines.specs.Pieces.{is_blank};
 ghost use Rattle.gcode_text.specs.Line.{capital, outside_comments};
 
 use std::alloc::AllocError;

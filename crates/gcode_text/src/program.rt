@@ -1,7 +1,7 @@
 // The lines of a text in turn, up to the one that ends the program, and the moves that they give.
 ghost use Rattle.std.specs.Prelude.{◌≡◌, ◌+◌, ◌<◌, ◌≤◌, ◌^◌, ◌∷◌, Ok, Err, IfErr, IfOk, List, ℕ, OnOk, [], if◌then◌else◌, length};
 ghost use Rattle.grid_num.specs.Judging.{and_then};
-ghost use Rattle.grid_num.specs.Pieces.{Piece};
+ghost use Rattle.text_lines.specs.Pieces.{Piece};
 ghost use Rattle.gcode_text.specs.Moves.{in_line, judge_line, judge_move, line_block, moves_of, nowhere};
 ghost use Rattle.gcode_text.specs.Run.{IsBehind, moves_left};
 ghost use Rattle.gcode_text.specs.Reading.{HasFault};
@@ -11,9 +11,10 @@ use crate::fault::{CodeFault, CodeKind, FinishFault};
 use crate::judge::judge;
 use crate::line::take_outside;
 use crate::modal::{Position, judge_move};
-use grid_num::{Lines, Units};
+use grid_num::Units;
 use plane_exact::LineMove;
 use std::alloc::{AllocError, Global};
+use text_lines::Lines;
 
 /// The most bytes of a line, without what ends it.
 const MOST_LINE_BYTES: usize = 1024;

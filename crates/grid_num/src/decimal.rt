@@ -5,7 +5,7 @@ ghost use Rattle.std.specs.List.{after_first, before_first};
 ghost use Rattle.grid_num.specs.Decimal.{counted_digits, decimal_times};
 
 use crate::numeral::{counted, is_all_digits, power_of_ten, value_after};
-use crate::pieces::Separator;
+use crate::split::split_at_byte;
 use std::marker::Model;
 
 /// Why a text isn't a whole number of the scale.
@@ -122,8 +122,8 @@ fn split_at_point(text: &[u8]) -> (&[u8], &[u8])
     ensures whole { result.0.now ≡ before_first (λ byte. byte == 46) text.now }
     ensures fraction { result.1.now ≡ after_first (λ byte. byte == 46) text.now }
 {
-    match Separator::Byte(b'.').first_in(text) {
-        Some(point) => (&text[..point], &text[point + 1..]),
+    match split_at_byte(text, b'.') {
+        Some(sides) => sides,
         None => (text, &[]),
     }
 }

@@ -2,7 +2,7 @@
 ghost use Rattle.std.specs.Prelude.{◌≡◌, ◌<◌, ◌^◌, IfSome};
 ghost use Rattle.grid_num.specs.Whole.{IsOfNineDigits, digits_of, pair_of, whole_of};
 
-use crate::pieces::Separator;
+use crate::split::split_at_byte;
 
 /// The number that an optional minus and one to nine digits write, or None for any other text.
 pub fn read_whole(text: &[u8]) -> Option<i32>
@@ -20,10 +20,8 @@ pub fn read_whole_pair(text: &[u8], separator: u8) -> Option<(i32, i32)>
     ensures value { result ≡ pair_of separator text.now }
     ensures range { IfSome result (λ pair. IsOfNineDigits pair.0 × IsOfNineDigits pair.1) }
 {
-    let middle = Separator::Byte(separator).first_in(text)?;
-    let first = read_whole(&text[..middle])?;
-    let second = read_whole(&text[middle + 1..])?;
-    Some((first, second))
+    let (first, second) = split_at_byte(text, separator)?;
+    Some((read_whole(first)?, read_whole(second)?))
 }
 
 // The number that one to nine digits write in base 10.

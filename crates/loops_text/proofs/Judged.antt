@@ -4,7 +4,7 @@ use Rattle.std.specs.List.{list_any}
 use Rattle.std.proofs.lemmas.List.{length_push}
 use Rattle.std.proofs.lemmas.Bool.{eqb-false}
 use Rattle.grid_num.specs.Judging.{and_then}
-use Rattle.grid_num.specs.Pieces.{Piece}
+use Rattle.text_lines.specs.Pieces.{Piece}
 use Rattle.plane_exact.specs.Plane.{GridPoint}
 use Rattle.engrave_model.specs.Drawing.{edges_back_to, edges_of_loop, most_edges}
 use Rattle.loops_text.specs.Edges.{push_fault, same_point}

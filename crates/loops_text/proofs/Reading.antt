@@ -2,7 +2,7 @@
 use Rattle.std.proofs.Common.{◌≤◌, ◌≡◌, ℕ, ◌-◌, Bool, true, false, not, if◌then◌else◌, None, Some, Result, Ok, Err, List, [], ◌∷◌, ◌++◌, length, map, filter, sum_by, sym, ap, ◌∙◌, refl, arith, append_assoc}
 use Rattle.std.proofs.lemmas.List.Sums.{sum_by_push}
 use Rattle.grid_num.specs.Judging.{and_then}
-use Rattle.grid_num.specs.Pieces.{Piece, words_of}
+use Rattle.text_lines.specs.Pieces.{Piece, words_of}
 use Rattle.plane_exact.specs.Plane.{GridPoint}
 use Rattle.engrave_model.specs.Drawing.{edges_of, most_edges}
 use Rattle.loops_text.specs.Edges.{push_fault, same_point}

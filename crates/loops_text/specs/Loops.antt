@@ -1,7 +1,7 @@
 -- The loops form of a drawing: a loop a line, its points x,y in words. The drawing of a text, or its first fault.
 use Rattle.std.specs.Prelude.{ℕ, ◌-◌, Bool, true, false, not, ◌&&◌, if◌then◌else◌, Option, Some, None, List, [], ◌∷◌, ◌++◌, length, map, filter, ℤ, nat_eq, ◌==◌, Result, Ok, Err}
 use Rattle.grid_num.specs.Judging.{and_then}
-use Rattle.grid_num.specs.Pieces.{Piece, lines_of, words_of}
+use Rattle.text_lines.specs.Pieces.{Piece, lines_of, words_of}
 use Rattle.grid_num.specs.Whole.{pair_of}
 use Rattle.plane_exact.specs.Plane.{GridPoint, is_coordinate}
 use Rattle.engrave_model.specs.Drawing.{most_edges}

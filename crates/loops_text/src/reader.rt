@@ -2,15 +2,16 @@
 //
 // The bytes are judged in order, by one function for each part: a line, a loop, a point. The first fault is answered.
 ghost use Rattle.std.specs.Prelude.{◌≡◌, ◌≢◌, ◌<◌, ◌≤◌, [], Err, IfErr, IfOk, None, Ok, OnOk, Some, if◌then◌else◌, length};
-ghost use Rattle.grid_num.specs.Cutting.{piece_of};
-ghost use Rattle.grid_num.specs.Pieces.{words_of};
+ghost use Rattle.text_lines.specs.Cutting.{piece_of};
+ghost use Rattle.text_lines.specs.Pieces.{words_of};
 ghost use Rattle.loops_text.specs.Loops.{closed, is_last, is_skipped, loop_of, loops_of, next_point, place_of_first, point_of};
 
 use crate::drawing::{Drawing, MOST_EDGES, PushFault, is_same_point};
 use crate::fault::{LoopsFault, LoopsKind, OUT_OF_MEMORY};
-use grid_num::{Lines, Piece, Words, read_whole_pair};
+use grid_num::read_whole_pair;
 use plane_exact::Point;
 use std::alloc::Global;
+use text_lines::{Lines, Piece, Words};
 
 /// The drawing of a text of at most 16,777,216 bytes, or its first fault.
 pub fn read_loops(alloc: Global, bytes: &[u8]) -> Result<Drawing, LoopsFault>

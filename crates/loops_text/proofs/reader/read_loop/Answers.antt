@@ -1,7 +1,7 @@
 -- Answers the goals of `read_loop`.
 use Rattle.std.proofs.Common.{◌≡◌, ◌+◌, ◌-◌, ◌∷◌, ◌++◌, [], Ok, length, ap, arith, sym, ◌∙◌, refl}
 use Rattle.std.proofs.lemmas.List.{length_push}
-use Rattle.grid_num.specs.Cutting.{piece_of}
+use Rattle.text_lines.specs.Cutting.{piece_of}
 use Rattle.loops_text.specs.Loops.{next_point, points_of}
 use Rattle.loops_text.proofs.Reading.{last_place, last_place-all, points_of_step}
 use Rattle.loops_text.proofs.reader.read_loop.Goals as goal

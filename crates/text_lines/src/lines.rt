@@ -13,8 +13,8 @@ pub struct Lines<'a> {
 
 impl<'a> Model for Lines<'a> {
     ghost use Rattle.std.specs.Prelude.{List, map};
-    ghost use Rattle.grid_num.specs.Pieces.{Piece as TextPiece};
-    ghost use Rattle.grid_num.specs.Cutting.{trimmed};
+    ghost use Rattle.text_lines.specs.Pieces.{Piece as TextPiece};
+    ghost use Rattle.text_lines.specs.Cutting.{trimmed};
 
     ghost Value = { List TextPiece };
 
@@ -22,7 +22,7 @@ impl<'a> Model for Lines<'a> {
 }
 
 impl<'a> Lines<'a> {
-    ghost use Rattle.grid_num.specs.Pieces.{lines_of};
+    ghost use Rattle.text_lines.specs.Pieces.{lines_of};
 
     /// The lines of a text of fewer than 2^32 bytes.
     pub fn of(text: &'a [u8]) -> Lines<'a>
@@ -37,7 +37,7 @@ impl<'a> Lines<'a> {
 
 impl<'a> Iterator for Lines<'a> {
     ghost use Rattle.std.specs.Iterator.{YieldsFirstBy, item_count};
-    ghost use Rattle.grid_num.specs.Cutting.{piece_of};
+    ghost use Rattle.text_lines.specs.Cutting.{piece_of};
 
     type Item = Piece<'a>;
 
@@ -58,8 +58,8 @@ pub struct Words<'a> {
 
 impl<'a> Model for Words<'a> {
     ghost use Rattle.std.specs.Prelude.{List, filter};
-    ghost use Rattle.grid_num.specs.Pieces.{Piece as TextPiece};
-    ghost use Rattle.grid_num.specs.Cutting.{is_word};
+    ghost use Rattle.text_lines.specs.Pieces.{Piece as TextPiece};
+    ghost use Rattle.text_lines.specs.Cutting.{is_word};
 
     ghost Value = { List TextPiece };
 
@@ -67,8 +67,8 @@ impl<'a> Model for Words<'a> {
 }
 
 impl<'a> Words<'a> {
-    ghost use Rattle.grid_num.specs.Cutting.{piece_of};
-    ghost use Rattle.grid_num.specs.Pieces.{words_of};
+    ghost use Rattle.text_lines.specs.Cutting.{piece_of};
+    ghost use Rattle.text_lines.specs.Pieces.{words_of};
 
     /// The words of a line.
     pub fn of(line: Piece<'a>) -> Words<'a>
@@ -82,7 +82,7 @@ impl<'a> Words<'a> {
 
 impl<'a> Iterator for Words<'a> {
     ghost use Rattle.std.specs.Iterator.{YieldsFirstBy, item_count};
-    ghost use Rattle.grid_num.specs.Cutting.{piece_of};
+    ghost use Rattle.text_lines.specs.Cutting.{piece_of};
 
     type Item = Piece<'a>;
 

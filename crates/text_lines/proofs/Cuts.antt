@@ -1,11 +1,10 @@
--- A text cut at its first separator.
-use Rattle.std.proofs.Common.{◌≡◌, ℕ, ◌+◌, Bool, true, false, not, ◌||◌, cond, if◌then◌else◌, ltb, suc, Some, None, List, [], ◌∷◌, ◌++◌, length, take, drop, eqb, sym, ap, ◌∙◌, refl, inl, inr, arith, add-zero}
-use Rattle.std.specs.List.{position, position_or_len, list_any}
+-- A text cut at its first separator, and a line without its carriage return.
+use Rattle.std.proofs.Common.{◌≡◌, ℕ, ◌+◌, Bool, true, false, not, cond, if◌then◌else◌, ltb, suc, Some, None, List, [], ◌∷◌, ◌++◌, length, take, drop, sym, ap, ◌∙◌, refl, inl, inr, arith, add-zero}
+use Rattle.std.specs.List.{position, position_or_len}
 use Rattle.std.proofs.lemmas.Option.{cond_some}
 use Rattle.std.proofs.lemmas.Bool.{cases_lt, lt-ltb, le-ltb, cond-true}
 use Rattle.std.proofs.lemmas.Bool.Decides.{nat_tests}
-use Rattle.grid_num.specs.Pieces.{Piece, pieces, with_first, without_return}
-use Rattle.grid_num.specs.Whole.{pair_of, both, whole_of}
+use Rattle.text_lines.specs.Pieces.{Piece, pieces, with_first, without_return}
 
 ltb-suc : (m n : ℕ) → ltb (1 + m) (suc n) ≡ ltb m n
 ltb-suc m n =
@@ -13,13 +12,6 @@ ltb-suc m n =
       | inl below ↦ lt-ltb (1 + m) (suc n) (omega arith) ∙ sym (lt-ltb m n below)
       | inr above ↦ le-ltb (1 + m) (suc n) (omega arith) ∙ sym (le-ltb m n above)
     ]
-
--- whether some element passes, by the place of the first one
-pub list_any_is : {X : Type 0} (p : X → Bool) (xs : List X) → list_any p xs ≡ ltb (position_or_len p xs) (length xs)
-list_any_is p [] = refl
-list_any_is p (x ∷ xs) =
-    let rest : list_any p xs ≡ ltb (1 + position_or_len p xs) (suc (length xs)) = list_any_is p xs ∙ sym (ltb-suc _ _) in
-    elim (p x) as (λ b. (b || list_any p xs) ≡ ltb (cond (not b) (1 + position_or_len p xs) 0) (suc (length xs))) [ true ↦ sym (lt-ltb 0 (suc (length xs)) (omega arith)) | false ↦ rest ]
 
 -- the pieces of a text that is cut at a place, or not at all
 abbrev cut_at : (ℕ → Bool) → ℕ → List ℕ → ℕ → Bool → List Piece
@@ -70,9 +62,3 @@ pub without_return_other : (line : List ℕ) (last : ℕ) → (last ≡ 13 → �
 without_return_other [] last other = grind (arith, nat_tests)
 without_return_other (byte ∷ []) last other = ap (λ bytes. byte ∷ bytes) (without_return_other [] last other)
 without_return_other (byte ∷ next ∷ rest) last other = ap (λ bytes. byte ∷ bytes) (without_return_other (next ∷ rest) last other)
-
--- two numbers with the separator between them, by its place
-pub pair_of_cut : (separator : ℕ) (text : List ℕ) (middle : ℕ) → position (λ byte. eqb byte separator) text ≡ Some middle → pair_of separator text ≡ both (whole_of (take middle text)) (whole_of (drop (middle + 1) text))
-pair_of_cut separator text middle found =
-    let is : (ltb (position_or_len (λ byte. eqb byte separator) text) (length text) ≡ true) × (position_or_len (λ byte. eqb byte separator) text ≡ middle) = cond_some _ _ _ found in
-    rw (list_any_is, is.0, is.1) refl

@@ -1,8 +1,8 @@
 -- Answers the goals of `Piece::trimmed`.
 use Rattle.std.proofs.Common.{ℕ, List, ap, sym, ◌∙◌}
-use Rattle.grid_num.specs.Pieces.{Piece, without_return}
-use Rattle.grid_num.proofs.Cuts.{without_return_push, without_return_other}
-use Rattle.grid_num.proofs.pieces.Piece.trimmed.Goals as goal
+use Rattle.text_lines.specs.Pieces.{Piece, without_return}
+use Rattle.text_lines.proofs.Cuts.{without_return_push, without_return_other}
+use Rattle.text_lines.proofs.pieces.Piece.trimmed.Goals as goal
 
 abbrev at_place : ℕ → List ℕ → Piece
 at_place at bytes = record { at = at; bytes = bytes }

@@ -1,8 +1,8 @@
 -- Answers the goals of `Piece::cut`.
 use Rattle.std.proofs.Common.{arith, sym, ◌∙◌}
 use Rattle.std.proofs.lemmas.Grind.{common_steps}
-use Rattle.grid_num.proofs.Cuts.{pieces_cut, pieces_whole}
-use Rattle.grid_num.proofs.pieces.Piece.cut.Goals as goal
+use Rattle.text_lines.proofs.Cuts.{pieces_cut, pieces_whole}
+use Rattle.text_lines.proofs.pieces.Piece.cut.Goals as goal
 
 pub returns-in_default : goal.returns-in_default
 returns-in_default c =

@@ -14,7 +14,7 @@ pub enum Separator {
 
 impl Separator {
     ghost use Rattle.std.specs.List.{position};
-    ghost use Rattle.grid_num.specs.Cutting.{separates};
+    ghost use Rattle.text_lines.specs.Cutting.{separates};
 
     /// Whether the byte separates.
     pub fn separates(self, byte: u8) -> bool
@@ -44,8 +44,8 @@ pub struct Piece<'a> {
 }
 
 impl<'a> Piece<'a> {
-    ghost use Rattle.grid_num.specs.Cutting.{piece_of, pieces_left, separates, trimmed};
-    ghost use Rattle.grid_num.specs.Pieces.{pieces};
+    ghost use Rattle.text_lines.specs.Cutting.{piece_of, pieces_left, separates, trimmed};
+    ghost use Rattle.text_lines.specs.Pieces.{pieces};
 
     // What stands before the first separator, and what stands after it, if there is one.
     fn cut(self, separator: Separator) -> (Piece<'a>, Option<Piece<'a>>)
@@ -91,8 +91,8 @@ pub struct Pieces<'a> {
 
 impl<'a> Model for Pieces<'a> {
     ghost use Rattle.std.specs.Prelude.{List};
-    ghost use Rattle.grid_num.specs.Pieces.{Piece as TextPiece};
-    ghost use Rattle.grid_num.specs.Cutting.{pieces_left};
+    ghost use Rattle.text_lines.specs.Pieces.{Piece as TextPiece};
+    ghost use Rattle.text_lines.specs.Cutting.{pieces_left};
 
     ghost Value = { List TextPiece };
 
@@ -100,8 +100,8 @@ impl<'a> Model for Pieces<'a> {
 }
 
 impl<'a> Pieces<'a> {
-    ghost use Rattle.grid_num.specs.Cutting.{separates};
-    ghost use Rattle.grid_num.specs.Pieces.{pieces};
+    ghost use Rattle.text_lines.specs.Cutting.{separates};
+    ghost use Rattle.text_lines.specs.Pieces.{pieces};
 
     /// The pieces of a text of fewer than 2^32 bytes.
     pub fn of(text: &'a [u8], separator: Separator) -> Pieces<'a>
@@ -124,7 +124,7 @@ impl<'a> Pieces<'a> {
 
 impl<'a> Iterator for Pieces<'a> {
     ghost use Rattle.std.specs.Iterator.{YieldsFirstBy, item_count};
-    ghost use Rattle.grid_num.specs.Cutting.{piece_of};
+    ghost use Rattle.text_lines.specs.Cutting.{piece_of};
 
     type Item = Piece<'a>;
 

@@ -1,9 +1,9 @@
 -- What is still to come of a text that is being cut.
 use Rattle.std.specs.Prelude.{ℕ, Bool, Option, Some, None, List, [], not, ◌==◌}
-use Rattle.grid_num.specs.Pieces.{Piece, pieces, is_blank, is_empty, without_return}
-use Rattle.grid_num.specs.declared.pieces.Piece.{Piece as Part}
-use Rattle.grid_num.specs.declared.pieces.Separator.{Separator}
-use Rattle.grid_num.specs.declared.pieces.Separator.TheVariants.{Byte, Blank}
+use Rattle.text_lines.specs.Pieces.{Piece, pieces, is_blank, is_empty, without_return}
+use Rattle.text_lines.specs.declared.pieces.Piece.{Piece as Part}
+use Rattle.text_lines.specs.declared.pieces.Separator.{Separator}
+use Rattle.text_lines.specs.declared.pieces.Separator.TheVariants.{Byte, Blank}
 
 abbrev pub separates : Separator → ℕ → Bool
 separates (Byte separator) byte = byte == separator

@@ -1,0 +1,11 @@
+//! The lines of a text, the words of a line, and the pieces between any separator, each with its place in the text.
+//!
+//! The promise are the clauses of `Lines::of`, `Words::of` and `Pieces::of`: an iterator over exactly the pieces of the text,
+//! in order.
+#![tactic(auto)]
+
+mod lines;
+mod pieces;
+
+pub use lines::{Lines, Words};
+pub use pieces::{Piece, Pieces, Separator};
