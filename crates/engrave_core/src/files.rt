@@ -5,7 +5,7 @@ ghost use Rattle.engrave_core.specs.Refusals.{IsRefusalOfCode, IsRefusalOfFile, 
 ghost use Rattle.engrave_core.specs.Top.{IsCaused};
 
 use crate::outcome::{InputFault, Outcome, Which};
-use gcode_text::{FinishFault, moves_in};
+use gcode_text::FinishFault;
 use grid_num::Units;
 use loops_text::{Drawing, LoopsFault, LoopsKind, read_loops};
 use plane_exact::LineMove;
@@ -100,7 +100,7 @@ fn read_code(alloc: Global, units: Units, bytes: &[u8]) -> Result<Vec<LineMove>,
     ensures told { IsReadAs result (λ moves. moves.items) (code_of units bytes.now) }
     ensures refusal { IfErr result IsRefusalOfCode }
 {
-    match moves_in(alloc, units, bytes) {
+    match gcode_text::read_code(alloc, units, bytes) {
         Ok(moves) => Ok(moves),
         Err(FinishFault::Code(fault)) => Err(Outcome::Input(InputFault::Code(fault))),
         Err(FinishFault::Memory) => Err(Outcome::Memory),

@@ -2,7 +2,7 @@
 use Rattle.std.proofs.Common.{◌≡◌, ℕ, ◌+◌, ◌-◌, ◌≤◌, Bool, true, false, cond, List, [], ◌∷◌, length, get_or, take, drop, ap, ◌∙◌, refl, arith}
 use Rattle.std.specs.List.{prefix_len}
 use Rattle.std.proofs.lemmas.Grind.{common_steps}
-use Rattle.gcode_text.specs.Line.{is_number_byte, cut_number, line_words}
+use Rattle.gcode_text.specs.Grammar.{is_number_byte, cut_number, line_words}
 
 -- the characters of a number at the front, and the words behind them
 abbrev CutAt : List ℕ → ℕ → Type 0

@@ -1,4 +1,5 @@
 -- The lemmas of the crate.
+pub mod Collects
 pub mod Cutting
 pub mod Outside
-pub mod Steps
+pub mod Stepped

@@ -4,7 +4,7 @@ use Rattle.std.specs.Prelude.{option_map}
 use Rattle.std.proofs.lemmas.Bool.{ne_eqb}
 use Rattle.std.proofs.lemmas.List.{at_drop_more, append-nil}
 use Rattle.text_lines.specs.Pieces.{is_blank}
-use Rattle.gcode_text.specs.Line.{capital, outside_comments}
+use Rattle.gcode_text.specs.Grammar.{capital, outside_comments}
 
 -- what stood outside comments so far, and then that of the rest
 abbrev pub then_outside : List ℕ → Option (List ℕ) → Option (List ℕ)

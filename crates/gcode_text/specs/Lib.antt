@@ -1,8 +1,9 @@
 -- The definitions of the crate.
+pub mod Collecting
 pub mod Faults
-pub mod Line
+pub mod Grammar
 pub mod Moves
-pub mod Profile
 pub mod Reading
-pub mod Run
+pub mod Stepping
+pub mod Within
 pub mod Words

@@ -5,19 +5,14 @@ use Rattle.text_lines.specs.Pieces.{Piece, lines_of}
 use Rattle.grid_num.specs.declared.units.Units.{Units}
 use Rattle.plane_exact.specs.Heights.{GridPlace}
 use Rattle.plane_exact.specs.declared.moves.LineMove.{LineMove}
-use Rattle.gcode_text.specs.Line.{outside_comments, line_words}
-use Rattle.gcode_text.specs.Profile.{empty_block, judge_words}
+use Rattle.gcode_text.specs.Grammar.{empty_block, judge_words, line_words, outside_comments}
 use Rattle.gcode_text.specs.declared.block.Block.{Block}
+use Rattle.gcode_text.specs.declared.line.TheConstants.{MOST_LINE_BYTES}
 use Rattle.gcode_text.specs.declared.modal.Position.{Position}
+use Rattle.gcode_text.specs.declared.modal.TheConstants.{MOST_MOVES}
 use Rattle.gcode_text.specs.declared.fault.CodeFault.{CodeFault}
 use Rattle.gcode_text.specs.declared.fault.CodeKind.{CodeKind}
 use Rattle.gcode_text.specs.declared.fault.CodeKind.TheVariants as kind
-
-abbrev pub most_line_bytes : ℕ
-most_line_bytes = 1024
-
-abbrev pub most_moves : ℕ
-most_moves = 8388608
 
 -- "%" (37) alone
 abbrev pub is_percent : List ℕ → Bool
@@ -32,7 +27,7 @@ words_block units (Some outside) = if is_percent outside then Ok empty_block els
 
 abbrev pub line_block : Units → List ℕ → Result Block CodeKind
 line_block units line =
-    if nat_lt most_line_bytes (length line) then Err kind.LongLine else words_block units (outside_comments false line)
+    if nat_lt MOST_LINE_BYTES (length line) then Err kind.LongLine else words_block units (outside_comments false line)
 
 -- no coordinate is known
 abbrev pub nowhere : Position
@@ -76,7 +71,7 @@ is_below (Some z) = int_lt z (pos 0)
 abbrev pub judge_move : ℕ → ℕ → Position → Block → Result (Option LineMove) CodeKind
 judge_move line count old block =
     if is_below (moved old block).z && not (is_some (place_of old)) then Err kind.Unplaced
-    else if names_place block && is_some (place_of old) && nat_le most_moves count then Err kind.TooMany
+    else if names_place block && is_some (place_of old) && nat_le MOST_MOVES count then Err kind.TooMany
     else Ok (move_of line old block)
 
 -- the block of a line, and its move
@@ -101,7 +96,7 @@ moves_from units line count old (text ∷ lines) =
     and_then (in_line line (judge_line units line count old text.bytes))
     (λ (block, mv).
     if block.last then Ok (and_later mv [])
-    else and_then (moves_from units (line + 1) (length (and_later mv []) + count) (moved old block) lines)
+    else and_then (moves_from units (line + 1) (if is_some mv then count + 1 else count) (moved old block) lines)
     (λ later. Ok (and_later mv later)))
 
 -- the moves of a text, or its first fault

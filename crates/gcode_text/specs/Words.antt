@@ -1,5 +1,5 @@
 -- A word of the program, as the definitions see it.
-use Rattle.gcode_text.specs.Line.{Word}
+use Rattle.gcode_text.specs.Grammar.{Word}
 use Rattle.gcode_text.specs.declared.words.Word.{Word as WordRead}
 
 abbrev pub word_of : WordRead → Word

@@ -67,7 +67,7 @@ pub struct Block {
 }
 
 impl Block {
-    ghost use Rattle.gcode_text.specs.Profile.{empty_block};
+    ghost use Rattle.gcode_text.specs.Grammar.{empty_block};
 
     /// The block of no words.
     pub fn empty() -> Block

@@ -2,6 +2,8 @@
 ghost use Rattle.std.specs.Prelude.{◌≡◌};
 ghost use Rattle.gcode_text.specs.Faults.{code_words};
 
+use std::alloc::{AllocError, AllocFailed};
+
 /// What is wrong with a line of code.
 #[derive(Clone, Copy, Debug, PartialEq, Eq)]
 pub enum CodeKind {
@@ -57,11 +59,41 @@ pub struct CodeFault {
     pub kind: CodeKind,
 }
 
-/// Why a reader gives no moves.
+/// Why a program's moves aren't given.
 #[derive(Clone, Copy, Debug, PartialEq, Eq)]
 pub enum FinishFault {
     /// The code has this fault.
     Code(CodeFault),
-    /// There was no memory.
+    /// Memory ran out.
     Memory,
+}
+
+impl From<CodeFault> for FinishFault {
+    ghost use Rattle.gcode_text.specs.declared.fault.FinishFault.TheVariants.{Code};
+
+    ghost from_gives = { λ fault given. given ≡ Code fault };
+
+    fn from(fault: CodeFault) -> FinishFault {
+        FinishFault::Code(fault)
+    }
+}
+
+impl From<AllocError> for FinishFault {
+    ghost use Rattle.gcode_text.specs.declared.fault.FinishFault.TheVariants.{Memory};
+
+    ghost from_gives = { λ _ given. given ≡ Memory };
+
+    fn from(_error: AllocError) -> FinishFault {
+        FinishFault::Memory
+    }
+}
+
+impl<T: Drop> From<AllocFailed<T>> for FinishFault {
+    ghost use Rattle.gcode_text.specs.declared.fault.FinishFault.TheVariants.{Memory};
+
+    ghost from_gives = { λ _ given. given ≡ Memory };
+
+    fn from(_error: AllocFailed<T>) -> FinishFault {
+        FinishFault::Memory
+    }
 }

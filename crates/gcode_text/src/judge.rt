@@ -1,7 +1,6 @@
 // Judges the words of a line in turn, from the left.
 ghost use Rattle.std.specs.Prelude.{◌≡◌, true, false, MatchResult};
-ghost use Rattle.gcode_text.specs.Line.{line_words};
-ghost use Rattle.gcode_text.specs.Profile.{coordinate, empty_block, height, is_one_of, judge_g, judge_m, judge_other, judge_unused, judge_word, judge_words};
+ghost use Rattle.gcode_text.specs.Grammar.{coordinate, empty_block, height, is_one_of, judge_g, judge_m, judge_other, judge_unused, judge_word, judge_words, line_words};
 ghost use Rattle.gcode_text.specs.Words.{word_of};
 
 use crate::block::{Block, Height};

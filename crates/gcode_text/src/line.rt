@@ -1,14 +1,43 @@
-// A line of code without its comments and blanks, in capitals.
-ghost use Rattle.std.specs.Prelude.{◌≡◌, IfOk, false, Some, None, if◌then◌else◌};
+// A line of a program: its block, from what stands outside its comments and blanks, in capitals.
+ghost use Rattle.std.specs.Prelude.{◌≡◌, ◌≤◌, false, Some, None, if◌then◌else◌, length};
 ghost use Rattle.text_lines.specs.Pieces.{is_blank};
-ghost use Rattle.gcode_text.specs.Line.{capital, outside_comments};
+ghost use Rattle.gcode_text.specs.Grammar.{capital, outside_comments};
+ghost use Rattle.gcode_text.specs.Moves.{line_block};
 
-use std::alloc::AllocError;
+use crate::block::Block;
+use crate::fault::CodeKind;
+use crate::judge::judge;
+use arrayvec::ArrayVec;
+use grid_num::Units;
 
-/// Puts what stands in the line outside its comments in place of what `outside` holds: without blanks, in capitals.
-/// False where a `(` has no `)` behind it in the line.
-pub fn take_outside(line: &[u8], outside: &mut Vec<u8>) -> Result<bool, AllocError>
-    ensures { IfOk result (λ is_closed. outside_comments false line.now ≡ (if is_closed then Some outside.new.items else None)) }
+/// The most bytes of a line, without what ends it.
+pub const MOST_LINE_BYTES: usize = 1024;
+
+/// Room for the most bytes of a line and the carriage return that may end it.
+pub const LINE_ROOM: usize = 1025;
+
+/// The block of a line, without the carriage return that may end it.
+pub fn line_block(units: Units, line: &[u8]) -> Result<Block, CodeKind>
+    ensures { result ≡ line_block units line.now }
+{
+    if line.len() > MOST_LINE_BYTES {
+        return Err(CodeKind::LongLine);
+    }
+    let mut outside = ArrayVec::new();
+    if !take_outside(line, &mut outside) {
+        return Err(CodeKind::OpenComment);
+    }
+    match outside.as_slice() {
+        [b'%'] => Ok(Block::empty()),
+        words => judge(units, words),
+    }
+}
+
+// Puts what stands in the line outside its comments in place of what `outside` holds: without blanks, in capitals.
+// False where a `(` has no `)` behind it in the line.
+fn take_outside(line: &[u8], outside: &mut ArrayVec<u8, MOST_LINE_BYTES>) -> bool
+    requires { length line.now ≤ MOST_LINE_BYTES }
+    ensures { outside_comments false line.now ≡ (if result then Some outside.new.items else None) }
 {
     outside.clear();
     let mut in_comment = false;
@@ -18,12 +47,12 @@ pub fn take_outside(line: &[u8], outside: &mut Vec<u8>) -> Result<bool, AllocErr
         } else if *byte == b'(' {
             in_comment = true;
         } else if *byte == b';' {
-            return Ok(true);
+            return true;
         } else if !is_blank(*byte) {
-            outside.push(as_capital(*byte))?;
+            outside.push(as_capital(*byte));
         }
     }
-    Ok(!in_comment)
+    !in_comment
 }
 
 // A small letter as the capital.

@@ -6,8 +6,8 @@ use crate::block::{Block, Height};
 use crate::fault::CodeKind;
 use plane_exact::{LineMove, Move, Place, Point};
 
-/// The most moves of a text.
-const MOST_MOVES: usize = 8_388_608;
+/// The most moves of a program.
+pub const MOST_MOVES: u32 = 8_388_608;
 
 /// The coordinates that are known, in grid units.
 #[derive(Clone, Copy)]
@@ -67,7 +67,7 @@ impl Position {
 /// before it, else `TooMany` for a move past the most moves.
 pub fn judge_move(
     line: u32,
-    count: usize,
+    count: u32,
     old: &Position,
     block: &Block,
 ) -> Result<Option<LineMove>, CodeKind>

@@ -1,14 +1,27 @@
-// Code that comes in pieces, however it is cut.
-ghost use Rattle.std.specs.Prelude.{◌≡◌, ◌+◌, ◌++◌, ◌≤◌, Err, IfErr, IfOk, IfSome, IsErr, None, Ok, OnErr, OnOk, Some, [], length};
+// A program that comes in pieces, however it is cut.
+ghost use Rattle.std.specs.Prelude.{◌≡◌, ◌+◌, ◌++◌, ◌≤◌, ◌<◌, ◌∷◌, List, ℕ, IfErr, IfOk, IsErr, OnErr, OnOk, Ok, Err, [], false, true, length};
 ghost use Rattle.gcode_text.specs.Moves.{moves_of};
-ghost use Rattle.gcode_text.specs.Reading.{HasFault};
+ghost use Rattle.gcode_text.specs.Reading.{HasFault, StandsFor};
+ghost use Rattle.gcode_text.specs.Collecting.{Continues, collected_moves};
 
 use crate::fault::FinishFault;
-use crate::program::moves_in;
+use crate::state::{MOST_CODE_BYTES, Turn};
+use crate::stepper::Stepper;
 use grid_num::Units;
 use plane_exact::LineMove;
 use std::alloc::{AllocError, Global};
 use std::marker::Model;
+
+/// The moves of the program, each with its line, or its first fault.
+pub fn read_code(alloc: Global, units: Units, code: &[u8]) -> Result<Vec<LineMove>, FinishFault>
+    requires { length code.now ≤ MOST_CODE_BYTES }
+    ensures moves { IfOk result (λ moves. moves_of units code.now ≡ Ok moves.items) }
+    ensures fault { IfErr result (λ fault. HasFault fault (moves_of units code.now)) }
+{
+    let mut reader = Reader::new(alloc, units);
+    reader.feed(code)?;
+    reader.finish()
+}
 
 /// Reads G-code that is fed in pieces: its moves depend on the bytes alone, and not on how they are cut.
 ///
@@ -32,64 +45,116 @@ use std::marker::Model;
 /// - A line that is `%` alone, outside comments, says nothing, wherever it stands. A file needs no end word.
 #[derive(Drop)]
 pub struct Reader {
-    alloc: Global,
-    units: Units,
-    // What was fed, or None after want of memory.
-    code: Option<Vec<u8>>,
+    collected: Collected,
+    // Whether memory ran out: then a move is missing.
+    is_lost: bool,
 }
 
 impl Model for Reader {
-    ghost use Rattle.std.specs.Prelude.{◌≤◌, IfSome, length, option_map};
-    ghost use Rattle.gcode_text.specs.Reading.{Fed};
+    ghost use Rattle.gcode_text.specs.Reading.{Progress};
 
-    ghost Value = { Fed };
+    ghost Value = { Progress };
 
-    ghost view = { λ r. record { units = r.units; fed = option_map (λ code. code.items) r.code } };
-
-    ghost invariant = { λ r. IfSome r.code (λ code. length code.items ≤ 536870912) };
+    ghost view = { λ r. record { units = r.collected.stepper.units; state = r.collected.stepper; moves = r.collected.moves.items; is_lost = r.is_lost } };
 }
 
 impl Reader {
     /// A reader for a job of these units, which was fed nothing.
     pub fn new(alloc: Global, units: Units) -> Reader
-        ensures { result ≡ record { units = units; fed = Some [] } }
+        ensures units { result.units ≡ units }
+        ensures nothing { StandsFor [] result }
+        ensures fed { result.state.fed ≡ 0 }
+        ensures memory { result.is_lost ≡ false }
     {
         Reader {
-            alloc,
-            units,
-            code: Some(Vec::new(alloc)),
+            collected: Collected {
+                stepper: Stepper::new(units),
+                moves: Vec::new(alloc),
+            },
+            is_lost: false,
         }
     }
 
-    /// Takes the next piece of the code, which has at most 536,870,912 bytes in all. After an error every later call
+    /// Takes the next piece of the program, which has at most 536,870,912 bytes in all. After an error every later call
     /// errs.
     pub fn feed(&mut self, piece: &[u8]) -> Result<(), AllocError>
-        requires room { IfSome self.old.fed (λ bytes. length bytes + length piece.now ≤ 536870912) }
-        ensures grown { OnOk result (IfSome self.old.fed (λ bytes. self.new ≡ record { units = self.old.units; fed = Some (bytes ++ piece.now) })) }
-        ensures lost { OnErr result (self.new ≡ record { units = self.old.units; fed = None }) }
-        ensures stays_lost { self.old.fed ≡ None → IsErr result }
+        requires room { self.old.state.fed + length piece.now ≤ MOST_CODE_BYTES }
+        ensures units { self.new.units ≡ self.old.units }
+        ensures grown { OnOk result ((bytes : List ℕ) → StandsFor bytes self.old → StandsFor (bytes ++ piece.now) self.new) }
+        ensures fed { OnOk result (self.new.state.fed ≡ self.old.state.fed + length piece.now) }
+        ensures room_left { self.new.state.fed ≤ self.old.state.fed + length piece.now }
+        ensures memory { self.new.is_lost ≡ true → IsErr result }
+        ensures lost { OnErr result (self.new.is_lost ≡ true) }
+        ensures stays_lost { self.old.is_lost ≡ true → IsErr result }
     {
-        let Some(code) = &mut self.code else {
+        if self.is_lost {
             return Err(AllocError);
-        };
-        let grown = code.extend_from_slice(piece);
-        if grown.is_err() {
-            self.code = None;
         }
+        let grown = self.collected.take_all(piece);
+        self.is_lost = grown.is_err();
         grown
     }
 
-    /// The moves of the code, each with its line, or its first fault. `Memory` where a piece was lost, or there is
-    /// none for the moves.
+    /// The moves of the program, each with its line, or its first fault. `Memory` where memory ran out, now or in a call
+    /// of `feed`.
     pub fn finish(self) -> Result<Vec<LineMove>, FinishFault>
-        ensures moves { IfOk result (λ moves. IfSome self.fed (λ bytes. moves_of self.units bytes ≡ Ok moves.items)) }
-        ensures fault { IfErr result (λ fault. IfSome self.fed (λ bytes. HasFault fault (moves_of self.units bytes))) }
-        ensures lost { self.fed ≡ None → result ≡ Err FinishFault.Memory }
+        ensures moves { IfOk result (λ moves. (bytes : List ℕ) → StandsFor bytes self → moves_of self.units bytes ≡ Ok moves.items) }
+        ensures fault { IfErr result (λ fault. (bytes : List ℕ) → StandsFor bytes self → HasFault fault (moves_of self.units bytes)) }
+        ensures lost { self.is_lost ≡ true → result ≡ Err FinishFault.Memory }
     {
-        let Reader { alloc, units, code } = self;
-        match code {
-            Some(code) => moves_in(alloc, units, &code),
-            None => Err(FinishFault::Memory),
+        let Reader { collected, is_lost } = self;
+        if is_lost {
+            return Err(FinishFault::Memory);
         }
+        collected.finish()
+    }
+}
+
+// A stepper, and the moves that it has reported.
+#[derive(Drop)]
+struct Collected {
+    stepper: Stepper,
+    moves: Vec<LineMove>,
+}
+
+impl Collected {
+    // Takes the next bytes.
+    fn take_all(&mut self, piece: &[u8]) -> Result<(), AllocError>
+        requires room { self.old.stepper.fed + length piece.now ≤ MOST_CODE_BYTES }
+        ensures units { self.new.stepper.units ≡ self.old.stepper.units }
+        ensures fed { OnOk result (self.new.stepper.fed ≡ self.old.stepper.fed + length piece.now) }
+        ensures room_left { self.new.stepper.fed ≤ self.old.stepper.fed + length piece.now }
+        ensures moves { OnOk result (Continues self.old piece.now self.new []) }
+    {
+        for byte in piece {
+            self.take(*byte)?;
+        }
+        Ok(())
+    }
+
+    // Takes the next byte.
+    fn take(&mut self, byte: u8) -> Result<(), AllocError>
+        requires room { self.old.stepper.fed < MOST_CODE_BYTES }
+        ensures units { self.new.stepper.units ≡ self.old.stepper.units }
+        ensures fed { self.new.stepper.fed ≡ self.old.stepper.fed + 1 }
+        ensures moves { OnOk result ((later : List ℕ) → Continues self.old (byte ∷ later) self.new later) }
+    {
+        match self.stepper.byte(byte) {
+            Turn::Moved(mv) => self.moves.push(mv)?,
+            Turn::Nothing | Turn::Failed(_) => {}
+        }
+        Ok(())
+    }
+
+    // With the move of the last line; or the first fault.
+    fn finish(self) -> Result<Vec<LineMove>, FinishFault>
+        ensures moves { IfOk result (λ moves. collected_moves self ≡ Ok moves.items) }
+        ensures fault { IfErr result (λ fault. HasFault fault (collected_moves self)) }
+    {
+        let Collected { stepper, mut moves } = self;
+        if let Some(mv) = stepper.end()? {
+            moves.push(mv)?;
+        }
+        Ok(moves)
     }
 }

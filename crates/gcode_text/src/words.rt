@@ -1,7 +1,7 @@
 // Words of a line: a letter and the characters of a number behind it.
 ghost use Rattle.std.specs.Prelude.{◌≡◌, [], ◌∷◌, length, MatchOption, IfSome, ◌<◌, ◌≤◌};
 ghost use Rattle.std.specs.List.{prefix_len};
-ghost use Rattle.gcode_text.specs.Line.{is_number_byte, line_words};
+ghost use Rattle.gcode_text.specs.Grammar.{is_number_byte, line_words};
 ghost use Rattle.gcode_text.specs.Words.{word_of};
 
 /// A word of a line. What stands in the letter's place may be another byte.

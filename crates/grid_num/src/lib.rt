@@ -6,6 +6,8 @@
 mod decimal;
 mod numeral;
 mod split;
+#[cfg(test)]
+mod tests;
 mod units;
 mod whole;
 

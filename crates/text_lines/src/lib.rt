@@ -1,6 +1,6 @@
 //! The lines of a text, the words of a line, and the pieces between any separator, each with its place in the text.
 //!
-//! The promise are the clauses of `Lines::of`, `Words::of` and `Pieces::of`: an iterator over exactly the pieces of the text,
+//! Its promise is in the clauses of `Lines::of`, `Words::of` and `Pieces::of`: an iterator over exactly the pieces of the text,
 //! in order.
 #![tactic(auto)]
 

@@ -1,7 +1,6 @@
 -- The invariants of the loop of `judge`.
 use Rattle.std.proofs.Common.{◌≡◌, length}
-use Rattle.gcode_text.specs.Line.{line_words}
-use Rattle.gcode_text.specs.Profile.{empty_block, judge_words}
+use Rattle.gcode_text.specs.Grammar.{empty_block, judge_words, line_words}
 use Rattle.gcode_text.proofs.judge.judge.Given as goal
 
 abbrev pub invariant-loop-word : goal.invariant-loop-word

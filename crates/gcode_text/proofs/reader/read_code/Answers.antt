@@ -1,0 +1,21 @@
+-- Answers the goals of `read_code`.
+use Rattle.std.proofs.Common.{[], ◌∙◌, ap, subst, sym}
+use Rattle.std.proofs.lemmas.Result.{IfOk-weaker}
+use Rattle.gcode_text.specs.Moves.{moves_of}
+use Rattle.gcode_text.specs.Reading.{HasFault}
+use Rattle.gcode_text.proofs.Collects.{IfErr-weaker}
+use Rattle.gcode_text.proofs.reader.read_code.Goals as goal
+
+pub returns-clause-moves : goal.returns-clause-moves
+returns-clause-moves c =
+    let code = c.args.code.now in
+    let stands = c.in_ok-feed.ensures.grown [] c.new-reader.ensures.nothing in
+    let same = ap (λ units. moves_of units code) (c.feed.ensures.units ∙ c.new-reader.ensures.units) in
+    IfOk-weaker c.finish.result _ _ (λ moves here. sym same ∙ here code stands) c.finish.ensures.moves
+
+pub returns-clause-fault : goal.returns-clause-fault
+returns-clause-fault c =
+    let code = c.args.code.now in
+    let stands = c.in_ok-feed.ensures.grown [] c.new-reader.ensures.nothing in
+    let same = ap (λ units. moves_of units code) (c.feed.ensures.units ∙ c.new-reader.ensures.units) in
+    IfErr-weaker c.finish.result _ _ (λ fault here. subst (HasFault fault) same (here code stands)) c.finish.ensures.fault

@@ -1,0 +1,52 @@
+// Numbers in text, at the scales of the units and at the ends of what is read. The expected answers are written by hand.
+use crate::{NumFault, read_decimal};
+use std::test::Fail;
+
+#[test]
+fn numbers_at_scales(rt: HostRuntime) -> Result<(), Fail> {
+    let rows = [
+        ("-0.02", 100, Ok(-2)),
+        ("0.00", 100, Ok(0)),
+        ("-32.768", 1000, Ok(-32_768)),
+        ("0.5", 10, Ok(5)),
+        ("+.25", 1 << 30, Ok(1 << 28)),
+        ("-0", 1, Ok(0)),
+        ("00000000000000000000000000000000000007.", 1, Ok(7)),
+        ("9007199254740992", 1, Ok(9_007_199_254_740_992)),
+        ("-9007199254740992", 1, Ok(-9_007_199_254_740_992)),
+        ("9007199254740993", 1, Err(NumFault::OutOfRange)),
+        (
+            "999999999999999999999999999",
+            1 << 30,
+            Err(NumFault::OutOfRange),
+        ),
+        (
+            "1000000000000000000000000000",
+            1,
+            Err(NumFault::TooManyDigits),
+        ),
+        (
+            "0.1000000000000000000000000000",
+            1,
+            Err(NumFault::TooManyDigits),
+        ),
+        ("0.01", 10, Err(NumFault::OffGrid)),
+        ("0.000000000000000000000000000000000000000000", 1, Ok(0)),
+        ("", 1, Err(NumFault::NotNumber)),
+        ("-", 1, Err(NumFault::NotNumber)),
+        (".", 1, Err(NumFault::NotNumber)),
+        ("1 ", 1, Err(NumFault::NotNumber)),
+        ("1e2", 1, Err(NumFault::NotNumber)),
+        ("1..2", 1, Err(NumFault::NotNumber)),
+        ("9999999999999999999999999999x", 1, Err(NumFault::NotNumber)),
+    ];
+    for (text, scale, want) in rows {
+        assert!(rt; 1 <= scale && scale <= 1 << 30);
+        assert_eq!(rt;
+            read_decimal(text.as_bytes(), scale),
+            want,
+            "{text} at {scale}"
+        );
+    }
+    Ok(())
+}
