@@ -12,7 +12,7 @@ use Rattle.gouge_checker.specs.declared.verdict.Verdict.{Verdict}
 use Rattle.gouge_checker.specs.declared.verdict.Verdict.TheVariants.{Clear, TooDeep, Slant, Gouge, Outside}
 use Rattle.job_words.specs.declared.request.Request.{Request}
 use Rattle.job_words.specs.declared.request.Request.TheVariants.{Probe, Moves, Check}
-use Rattle.loops_text.specs.Loops.{loops_of}
+use Rattle.loops_text.specs.Grammar.{loops_of}
 use Rattle.plane_exact.specs.Cone.{Cone}
 use Rattle.plane_exact.specs.Plane.{GridPoint}
 use Rattle.plane_exact.specs.declared.moves.LineMove.{LineMove}

@@ -12,7 +12,7 @@ use Rattle.gouge_checker.specs.declared.verdict.Verdict.TheVariants as verdict
 use Rattle.job_words.specs.Request.{request_of}
 use Rattle.job_words.specs.declared.request.Request.{Request}
 use Rattle.job_words.specs.declared.request.Request.TheVariants.{Probe, Moves, Check}
-use Rattle.loops_text.specs.Loops.{loops_of}
+use Rattle.loops_text.specs.Grammar.{loops_of}
 use Rattle.plane_exact.specs.Cone.{Cone}
 use Rattle.plane_exact.specs.Heights.{GridPlace}
 use Rattle.plane_exact.specs.Plane.{GridPoint}

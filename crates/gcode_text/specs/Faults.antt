@@ -4,6 +4,7 @@ use Rattle.gcode_text.specs.declared.fault.CodeFault.{CodeFault}
 use Rattle.gcode_text.specs.declared.fault.CodeKind.{CodeKind}
 use Rattle.gcode_text.specs.declared.fault.CodeKind.TheVariants as kind
 
+-- the words of a kind
 abbrev pub code_words : CodeKind → List ℕ
 code_words kind.Word = codes "word"
 code_words kind.Number = codes "number"

@@ -86,6 +86,7 @@ judge_m block number =
     else if is_one_of (30 ∷ 40 ∷ 50 ∷ 70 ∷ 80 ∷ 90 ∷ []) number then Ok block
     else Err kind.Word
 
+-- the number, where it is from low to high
 abbrev pub in_range : ℤ → ℤ → ℤ → Result ℤ CodeKind
 in_range low high z = if int_le low z && int_le z high then Ok z else Err kind.OutOfRange
 
@@ -93,9 +94,11 @@ in_range low high z = if int_le low z && int_le z high then Ok z else Err kind.O
 abbrev pub grid_units : Units → ℤ → ℤ → PlainNumber → Result ℤ CodeKind
 grid_units units low high number = and_then (or_kind kind.OffGrid (times_scale (per_unit_of units) number)) (in_range low high)
 
+-- X and Y, in grid units
 abbrev pub coordinate : Units → PlainNumber → Result ℤ CodeKind
 coordinate units number = grid_units units (negsuc 32767) (pos 32767) number
 
+-- Z, in grid units
 abbrev pub height : Units → PlainNumber → Result ℤ CodeKind
 height units number = grid_units units (negsuc 32766) (pos 32767) number
 

@@ -25,6 +25,7 @@ abbrev pub words_block : Units → Option (List ℕ) → Result Block CodeKind
 words_block units None = Err kind.OpenComment
 words_block units (Some outside) = if is_percent outside then Ok empty_block else judge_words units empty_block (line_words outside)
 
+-- the block of a line, which may be too long
 abbrev pub line_block : Units → List ℕ → Result Block CodeKind
 line_block units line =
     if nat_lt MOST_LINE_BYTES (length line) then Err kind.LongLine else words_block units (outside_comments false line)
@@ -42,6 +43,7 @@ latest old (Some new) = Some new
 abbrev pub moved : Position → Block → Position
 moved old block = record { x = latest old.x block.x; y = latest old.y block.y; z = latest old.z block.z }
 
+-- the place of these coordinates, where each is known
 abbrev pub place_from : Option ℤ → Option ℤ → Option ℤ → Option GridPlace
 place_from (Some x) (Some y) (Some z) = Some (record { at = record { x = x; y = y }; h = z })
 place_from _ _ _ = None
@@ -50,6 +52,7 @@ place_from _ _ _ = None
 abbrev pub place_of : Position → Option GridPlace
 place_of position = place_from position.x position.y position.z
 
+-- some word is a coordinate
 abbrev pub names_place : Block → Bool
 names_place block = is_some block.x || is_some block.y || is_some block.z
 
@@ -62,6 +65,7 @@ move_between line _ _ = None
 abbrev pub move_of : ℕ → Position → Block → Option LineMove
 move_of line old block = if names_place block then move_between line (place_of old) (place_of (moved old block)) else None
 
+-- a height that is known and below the surface
 abbrev pub is_below : Option ℤ → Bool
 is_below None = false
 is_below (Some z) = int_lt z (pos 0)

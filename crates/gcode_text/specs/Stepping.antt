@@ -57,6 +57,7 @@ turn_by (Ok None) = turn.Nothing
 turn_by (Ok (Some mv)) = turn.Moved mv
 turn_by (Err fault) = turn.Failed fault
 
+-- what the byte reports in a phase: nothing behind the program's end, or behind a fault
 abbrev pub turn_in : Phase → State → ℕ → Turn
 turn_in phase.Open s byte = if byte == 10 then turn_by (move_of_line (ended_line s)) else turn.Nothing
 turn_in phase.Ended s byte = turn.Nothing
@@ -66,6 +67,7 @@ turn_in (phase.Broken fault) s byte = turn.Nothing
 abbrev pub turn_of : State → ℕ → Turn
 turn_of s byte = turn_in s.phase s byte
 
+-- behind the byte in a phase: nothing changes behind the program's end, or behind a fault
 abbrev pub next_in : Phase → State → ℕ → State
 next_in phase.Open s byte = if byte == 10 then behind_line s (ended_line s) else with_byte s byte
 next_in phase.Ended s byte = s
@@ -75,10 +77,12 @@ next_in (phase.Broken fault) s byte = s
 abbrev pub next : State → ℕ → State
 next s byte = next_in s.phase (record s { fed = s.fed + 1 }) byte
 
+-- behind the bytes
 abbrev pub after : State → List ℕ → State
 after s [] = s
 after s (byte ∷ bytes) = after (next s byte) bytes
 
+-- the last line in a phase: none behind the program's end, and the fault behind a fault
 abbrev pub last_in : Phase → State → Result (Option LineMove) CodeFault
 last_in phase.Open s = move_of_line (ended_line s)
 last_in phase.Ended s = Ok None
@@ -88,6 +92,7 @@ last_in (phase.Broken fault) s = Err fault
 abbrev pub last_move : State → Result (Option LineMove) CodeFault
 last_move s = last_in s.phase s
 
+-- the move that a byte reports, if it does, and the later ones
 abbrev pub and_turn : Turn → List LineMove → List LineMove
 and_turn turn.Nothing later = later
 and_turn (turn.Moved mv) later = mv ∷ later

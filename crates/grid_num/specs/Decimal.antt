@@ -5,6 +5,7 @@ use Rattle.std.specs.Str.Parse.{digits_value}
 use Rattle.std.specs.List.{before_first, after_first}
 use Rattle.grid_num.specs.Judging.{and_then}
 use Rattle.grid_num.specs.declared.decimal.NumFault.{NumFault}
+use Rattle.grid_num.specs.declared.decimal.TheConstants.{MOST_DIGITS}
 use Rattle.grid_num.specs.declared.decimal.NumFault.TheVariants.{NotNumber, TooManyDigits, OffGrid, OutOfRange}
 
 -- the number digits / 10 ^ places, or minus that
@@ -18,15 +19,12 @@ abbrev pub counted_digits : List ℕ → ℕ
 counted_digits [] = 0
 counted_digits (digit ∷ rest) = if digit == 48 then counted_digits rest else length (digit ∷ rest)
 
-abbrev pub most_digits : ℕ
-most_digits = 27
-
 -- the digits before and behind the point, as a number
 abbrev pub decimal_by : Bool → List ℕ → List ℕ → Result PlainNumber NumFault
 decimal_by negative whole fraction =
     let digits = whole ++ fraction in
     if not (nat_le 1 (length digits) && all_ascii_digits digits) then Err NotNumber
-    else if nat_lt most_digits (counted_digits digits) then Err TooManyDigits
+    else if nat_lt MOST_DIGITS (counted_digits digits) then Err TooManyDigits
     else Ok (record { negative = negative; digits = digits_value 10 digits; places = length fraction })
 
 -- a number without its sign: what stands before the first point (46), and what stands behind it

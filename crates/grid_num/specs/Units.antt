@@ -11,6 +11,7 @@ per_unit_of Mm1000 = 1000
 per_unit_of In100 = 100
 per_unit_of In1000 = 1000
 
+-- lengths are in inches
 abbrev pub is_inch_of : Units → Bool
 is_inch_of Mm10 = false
 is_inch_of Mm100 = false

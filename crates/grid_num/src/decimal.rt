@@ -21,7 +21,8 @@ pub enum NumFault {
     OutOfRange,
 }
 
-const MOST_DIGITS: usize = 27;
+/// The most digits of a number, from the first that isn't 0 on.
+pub const MOST_DIGITS: usize = 27;
 
 /// A plain decimal number of at most 27 digits, exactly: `digits / 10^places`, or minus that.
 #[derive(Clone, Copy, Debug, PartialEq, Eq)]

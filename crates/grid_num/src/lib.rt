@@ -11,6 +11,6 @@ mod tests;
 mod units;
 mod whole;
 
-pub use decimal::{Decimal, NumFault, read_decimal};
+pub use decimal::{Decimal, MOST_DIGITS, NumFault, read_decimal};
 pub use units::Units;
 pub use whole::{read_whole, read_whole_pair};

@@ -8,7 +8,7 @@ use Rattle.text_lines.specs.Pieces.{Piece}
 use Rattle.plane_exact.specs.Plane.{GridPoint}
 use Rattle.engrave_model.specs.Drawing.{edges_back_to, edges_of_loop, most_edges}
 use Rattle.loops_text.specs.Edges.{push_fault, same_point}
-use Rattle.loops_text.specs.Loops.{closed, is_last, loop_of, next_point, point_of, points_of}
+use Rattle.loops_text.specs.Grammar.{closed, is_last, loop_of, next_point, point_of, points_of}
 use Rattle.loops_text.specs.declared.fault.LoopsFault.{LoopsFault}
 use Rattle.loops_text.proofs.Drawings.{push_fault-None}
 

@@ -12,6 +12,7 @@ abbrev pub loop_number : List (List GridPoint) → ℕ → ℕ
 loop_number [] e = 0
 loop_number (points ∷ loops) e = if nat_lt e (length points) then 0 else loop_number loops (e - length points) + 1
 
+-- the two points have the same numbers
 abbrev pub same_point : GridPoint → GridPoint → Bool
 same_point p q = int_eq p.x q.x && int_eq p.y q.y
 

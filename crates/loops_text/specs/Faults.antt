@@ -4,6 +4,7 @@ use Rattle.loops_text.specs.declared.fault.LoopsFault.{LoopsFault}
 use Rattle.loops_text.specs.declared.fault.LoopsKind.{LoopsKind}
 use Rattle.loops_text.specs.declared.fault.LoopsKind.TheVariants.{Syntax, Short, SamePoint, OutOfRange, TooMany, Memory}
 
+-- the words of a kind
 abbrev pub loops_words : LoopsKind → List ℕ
 loops_words Syntax = codes "syntax"
 loops_words Short = codes "short"

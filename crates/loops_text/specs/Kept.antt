@@ -9,6 +9,7 @@ abbrev pub numbers_from : ℕ → List (List GridPoint) → List ℕ
 numbers_from number [] = []
 numbers_from number (points ∷ loops) = replicate (length points) number ++ numbers_from (number + 1) loops
 
+-- the loops are a drawing, and the edges and the numbers of their loops are those of it, in order
 pub record IsKept (loops : List (List GridPoint)) (edges : List Seg) (numbers : List ℕ) : Type 0 where
   pub drawing : IsDrawing loops
   pub edges_in_order : edges ≡ edges_of loops

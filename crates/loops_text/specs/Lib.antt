@@ -1,5 +1,5 @@
 -- The definitions of the crate.
 pub mod Edges
 pub mod Faults
+pub mod Grammar
 pub mod Kept
-pub mod Loops

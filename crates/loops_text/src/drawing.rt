@@ -8,8 +8,8 @@ use plane_exact::{Point, Seg};
 use std::alloc::{AllocError, Global};
 use std::marker::Model;
 
-// A drawing has at most so many edges.
-pub(crate) const MOST_EDGES: u32 = 131_072;
+/// The most edges of a drawing, which are as many as its points.
+pub const MOST_EDGES: u32 = 131_072;
 
 /// Why a loop can't be added to a drawing, or memory ran out.
 #[derive(Clone, Copy, Debug, PartialEq, Eq)]
@@ -109,7 +109,7 @@ impl Drawing {
     /// The number of edges, which is that of points.
     pub fn edges(&self) -> u32
         ensures count { result ≡ length (edges_of self.now) }
-        ensures few { result ≤ 131072 }
+        ensures few { result ≤ MOST_EDGES }
         ensures drawing { IsDrawing self.now }
     {
         self.edges.len() as u32

@@ -2,7 +2,7 @@
 ghost use Rattle.std.specs.Prelude.{◌≡◌};
 ghost use Rattle.loops_text.specs.Faults.{loops_words};
 
-use std::alloc::AllocFailed;
+use std::alloc::{AllocError, AllocFailed};
 
 /// What is wrong with a text in loops form.
 #[derive(Clone, Copy, Debug, PartialEq, Eq)]
@@ -41,9 +41,19 @@ impl LoopsKind {
 /// ever printed.
 #[derive(Clone, Copy, Debug, PartialEq, Eq)]
 pub struct LoopsFault {
-    /// The place of the faulty word in the text, in bytes from 0; 0 for want of memory.
+    /// The place of the faulty word in the text, in bytes from 0; 0 where memory ran out.
     pub at: u32,
     pub kind: LoopsKind,
+}
+
+impl From<AllocError> for LoopsFault {
+    ghost use Rattle.loops_text.specs.declared.fault.LoopsKind.TheVariants.{Memory};
+
+    ghost from_gives = { λ _ fault. fault ≡ record { at = 0; kind = Memory } };
+
+    fn from(_error: AllocError) -> LoopsFault {
+        OUT_OF_MEMORY
+    }
 }
 
 impl<T: Drop> From<AllocFailed<T>> for LoopsFault {

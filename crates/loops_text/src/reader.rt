@@ -4,7 +4,7 @@
 ghost use Rattle.std.specs.Prelude.{◌≡◌, ◌≢◌, ◌<◌, ◌≤◌, [], Err, IfErr, IfOk, None, Ok, OnOk, Some, if◌then◌else◌, length};
 ghost use Rattle.text_lines.specs.Cutting.{piece_of};
 ghost use Rattle.text_lines.specs.Pieces.{words_of};
-ghost use Rattle.loops_text.specs.Loops.{closed, is_last, is_skipped, loop_of, loops_of, next_point, place_of_first, point_of};
+ghost use Rattle.loops_text.specs.Grammar.{closed, is_last, is_skipped, loop_of, loops_of, next_point, place_of_first, point_of};
 
 use crate::drawing::{Drawing, MOST_EDGES, PushFault, is_same_point};
 use crate::fault::{LoopsFault, LoopsKind, OUT_OF_MEMORY};
@@ -13,9 +13,12 @@ use plane_exact::Point;
 use std::alloc::Global;
 use text_lines::{Lines, Piece, Words};
 
-/// The drawing of a text of at most 16,777,216 bytes, or its first fault.
+/// The most bytes of a drawing's text.
+pub const MOST_DRAWING_BYTES: usize = 16_777_216;
+
+/// The drawing of a text of at most `MOST_DRAWING_BYTES` bytes, or its first fault.
 pub fn read_loops(alloc: Global, bytes: &[u8]) -> Result<Drawing, LoopsFault>
-    requires { length bytes.now ≤ 16777216 }
+    requires { length bytes.now ≤ MOST_DRAWING_BYTES }
     ensures drawing { IfOk result (λ d. loops_of bytes.now ≡ Ok d) }
     ensures fault { IfErr result (λ f. f.kind ≢ LoopsKind.Memory → loops_of bytes.now ≡ Err f) }
     ensures memory { IfErr result (λ f. f.kind ≡ LoopsKind.Memory → f.at ≡ 0) }

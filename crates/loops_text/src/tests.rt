@@ -1,6 +1,7 @@
 // Files in loops form with what docs/COMMANDS.md says of them, and each call of a drawing once.
 use crate::drawing::{Drawing, PushFault};
-use crate::reader::{LoopsFault, LoopsKind, read_loops};
+use crate::fault::{LoopsFault, LoopsKind};
+use crate::reader::read_loops;
 use plane_exact::{Point, Seg};
 use std::alloc::{AllocError, Global};
 use std::test::Fail;

@@ -5,6 +5,7 @@ use Rattle.text_lines.specs.declared.pieces.Piece.{Piece as Part}
 use Rattle.text_lines.specs.declared.pieces.Separator.{Separator}
 use Rattle.text_lines.specs.declared.pieces.Separator.TheVariants.{Byte, Blank}
 
+-- the byte separates
 abbrev pub separates : Separator → ℕ → Bool
 separates (Byte separator) byte = byte == separator
 separates Blank byte = is_blank byte
@@ -22,5 +23,6 @@ pieces_left separator (Some rest) = pieces (separates separator) rest.at rest.by
 abbrev pub trimmed : Piece → Piece
 trimmed line = record { at = line.at; bytes = without_return line.bytes }
 
+-- a piece between blanks that isn't empty
 abbrev pub is_word : Piece → Bool
 is_word piece = not (is_empty piece.bytes)

@@ -20,6 +20,7 @@ pieces separates at (byte ∷ rest) =
     then record { at = at; bytes = [] } ∷ pieces separates (at + 1) rest
     else with_first at byte (pieces separates (at + 1) rest)
 
+-- without a byte
 abbrev pub is_empty : List ℕ → Bool
 is_empty [] = true
 is_empty (byte ∷ rest) = false

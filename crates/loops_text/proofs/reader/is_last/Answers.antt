@@ -1,6 +1,6 @@
 -- Answers the goals of `is_last`.
 use Rattle.std.proofs.Common.{ap, sym, ◌∙◌}
-use Rattle.loops_text.specs.Loops.{is_last}
+use Rattle.loops_text.specs.Grammar.{is_last}
 use Rattle.loops_text.proofs.Reading.{is_last_push}
 use Rattle.loops_text.proofs.reader.is_last.Goals as goal
 

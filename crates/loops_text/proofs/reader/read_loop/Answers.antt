@@ -2,7 +2,7 @@
 use Rattle.std.proofs.Common.{◌≡◌, ◌+◌, ◌-◌, ◌∷◌, ◌++◌, [], Ok, length, ap, arith, sym, ◌∙◌, refl}
 use Rattle.std.proofs.lemmas.List.{length_push}
 use Rattle.text_lines.specs.Cutting.{piece_of}
-use Rattle.loops_text.specs.Loops.{next_point, points_of}
+use Rattle.loops_text.specs.Grammar.{next_point, points_of}
 use Rattle.loops_text.proofs.Reading.{last_place, last_place-all, points_of_step}
 use Rattle.loops_text.proofs.reader.read_loop.Goals as goal
 

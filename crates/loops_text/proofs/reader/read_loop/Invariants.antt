@@ -1,6 +1,6 @@
 -- The invariants of the loop of `read_loop`.
 use Rattle.std.proofs.Common.{◌≡◌, ◌-◌, ◌≤◌, [], length}
-use Rattle.loops_text.specs.Loops.{place_of_last, points_of}
+use Rattle.loops_text.specs.Grammar.{place_of_last, points_of}
 use Rattle.loops_text.proofs.Reading.{last_place}
 use Rattle.loops_text.proofs.reader.read_loop.Given as goal
 

@@ -2,7 +2,7 @@
 use Rattle.std.proofs.Common.{sym, ◌≡◌, ◌∷◌, ◌++◌, [], ap, ◌∙◌}
 use Rattle.std.proofs.lemmas.Result.{err_from_is_err_and}
 use Rattle.text_lines.specs.Cutting.{piece_of}
-use Rattle.loops_text.specs.Loops.{loops_of}
+use Rattle.loops_text.specs.Grammar.{loops_of}
 use Rattle.loops_text.proofs.Reading.{drawing_with, IsTurn, fault_of_turn, next_of_turn, push_fault-of_turn}
 use Rattle.loops_text.proofs.reader.read_loops.Goals as goal
 use Rattle.loops_text.proofs.reader.read_loops.Goals.{in-Memory, in_default-matches}

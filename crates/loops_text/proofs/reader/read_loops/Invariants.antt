@@ -1,6 +1,6 @@
 -- The invariants of the loop of `read_loops`.
 use Rattle.std.proofs.Common.{◌≡◌}
-use Rattle.loops_text.specs.Loops.{loops_of}
+use Rattle.loops_text.specs.Grammar.{loops_of}
 use Rattle.loops_text.proofs.Reading.{drawing_with}
 use Rattle.loops_text.proofs.reader.read_loops.Given as goal
 

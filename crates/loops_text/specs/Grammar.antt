@@ -35,6 +35,7 @@ point_of word = on_grid (pair_of 44 word.bytes)
     on_grid None = fault_at word Syntax
     on_grid (Some (x, y)) = if is_coordinate x && is_coordinate y then Ok (record { x = x; y = y }) else fault_at word OutOfRange
 
+-- the point is the last of the points again
 abbrev pub is_last : List GridPoint → GridPoint → Bool
 is_last [] p = false
 is_last (q ∷ []) p = same_point q p
@@ -52,10 +53,12 @@ points_of earlier room [] = Ok earlier
 points_of earlier room (word ∷ words) =
     and_then (next_point earlier room word) (λ p. points_of (earlier ++ p ∷ []) (room - 1) words)
 
+-- where the first of the words stands
 abbrev pub place_of_first : List Piece → ℕ
 place_of_first [] = 0
 place_of_first (word ∷ words) = word.at
 
+-- where the last of the words stands
 abbrev pub place_of_last : List Piece → ℕ
 place_of_last [] = 0
 place_of_last (word ∷ []) = word.at
