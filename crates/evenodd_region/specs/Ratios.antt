@@ -1,5 +1,6 @@
 -- Rational points as the code keeps them, the ways to them, and the products of two ways.
-use Rattle.std.specs.Prelude.{ℤ, pos, negsuc, ◌+ℤ◌, ◌-ℤ◌, ◌*ℤ◌, ◌≤ℤ◌}
+use Rattle.std.specs.Prelude.{ℤ, pos, ◌+ℤ◌, ◌-ℤ◌, ◌*ℤ◌}
+use Rattle.integer_algebra.specs.Ranges.{IsUpTo}
 use Rattle.plane_exact.specs.Plane.{GridPoint, RationalPoint}
 use Rattle.evenodd_region.specs.declared.ratio.RatioPoint.{RatioPoint}
 
@@ -7,9 +8,8 @@ abbrev pub rational_of : RatioPoint → RationalPoint
 rational_of p = record { x = p.x; y = p.y; over = p.over; positive = p.range.positive }
 
 -- from -73,727 * 2^30 to 73,727 * 2^30, as the ways from grid points to points near the grid are, times the denominator
-pub record IsWay (z : ℤ) : Type 0 where
-  pub low : negsuc 79163763458047 ≤ℤ z
-  pub high : z ≤ℤ pos 79163763458048
+abbrev pub IsWay : ℤ → Type 0
+IsWay z = IsUpTo (pos 79163763458048) z
 
 -- (w - a) × (w - b), times the square of w's denominator
 abbrev pub turn : RationalPoint → GridPoint → GridPoint → ℤ

@@ -1,5 +1,6 @@
 -- Whole numbers in text: an optional minus and one to nine digits.
-use Rattle.std.specs.Prelude.{ℕ, ◌&&◌, if◌then◌else◌, Option, Some, None, List, [], ◌∷◌, length, ℤ, pos, negsuc, neg_ℤ, ◌≤ℤ◌, nat_le, ◌==◌, option_map}
+use Rattle.std.specs.Prelude.{ℕ, ◌&&◌, if◌then◌else◌, Option, Some, None, List, [], ◌∷◌, length, ℤ, pos, neg_ℤ, nat_le, ◌==◌, option_map}
+use Rattle.integer_algebra.specs.Ranges.{IsUpTo}
 use Rattle.std.specs.Str.{all_ascii_digits}
 use Rattle.std.specs.Str.Parse.{digits_value}
 use Rattle.std.specs.List.{before_first, after_first, list_any}
@@ -20,9 +21,8 @@ whole_of (byte ∷ rest) =
     if byte == minus then option_map (λ n. neg_ℤ (pos n)) (digits_of rest) else option_map pos (digits_of (byte ∷ rest))
 
 -- a number that nine digits can write, with or without a minus
-pub record IsOfNineDigits (n : ℤ) : Type 0 where
-  pub low : negsuc 999999998 ≤ℤ n
-  pub high : n ≤ℤ pos 999999999
+abbrev pub IsOfNineDigits : ℤ → Type 0
+IsOfNineDigits n = IsUpTo (pos 999999999) n
 
 -- both values, where there are both
 abbrev pub both : {A B : Type 0} → Option A → Option B → Option (A × B)

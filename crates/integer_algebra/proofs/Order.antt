@@ -10,6 +10,7 @@ use native.Mathlib.Omega.{arith}
 use lib.IntN.{ℤ, pos, negsuc, ◌+ℤ◌, ◌-ℤ◌, ◌*ℤ◌, neg_ℤ, *ℤ_comm}
 use lib.Signed.{◌≤ℤ◌, ◌<ℤ◌}
 use Rattle.std.proofs.lemmas.Int.{ints, by_lt_z}
+use Rattle.integer_algebra.specs.Ranges.{IsUpTo}
 use Rattle.integer_algebra.proofs.Ring.{ring, V, K, ◌⊕◌, ◌⊖◌, ◌⊗◌, times_plus, plus_times}
 
 -- ---- cases
@@ -173,18 +174,9 @@ root_lt a b h k = by_lt_z a b (λ l. l) (λ l. let p = square_le b a k l in omeg
 
 -- ---- ranges
 
--- from -m to m
-pub record IsWithin (m a : ℤ) : Type 0 where
-  pub low : neg_ℤ m ≤ℤ a
-  pub high : a ≤ℤ m
-
 -- |a| ≤ m and |b| ≤ n give |a b| ≤ m n
-pub product_within : (m n a b : ℤ) → IsWithin m a → IsWithin n b → IsWithin (m *ℤ n) (a *ℤ b)
-product_within m n a b p q =
-    let a_low = p.low in
-    let a_high = p.high in
-    let b_low = q.low in
-    let b_high = q.high in
+pub product_up_to : (m n a b : ℤ) → IsUpTo m a → IsUpTo n b → IsUpTo (m *ℤ n) (a *ℤ b)
+product_up_to m n a b p q =
     let r₁ = times_nonneg (m -ℤ a) (n -ℤ b) (omega (arith, ints)) (omega (arith, ints)) in
     let r₂ = times_nonneg (m +ℤ a) (n +ℤ b) (omega (arith, ints)) (omega (arith, ints)) in
     let r₃ = times_nonneg (m -ℤ a) (n +ℤ b) (omega (arith, ints)) (omega (arith, ints)) in
@@ -194,5 +186,12 @@ product_within m n a b p q =
     let difference = ring xs ((V 0 ⊖ V 2) ⊗ (V 1 ⊕ V 3) ⊕ (V 0 ⊕ V 2) ⊗ (V 1 ⊖ V 3)) (K (pos 2) ⊗ (V 0 ⊗ V 1 ⊖ V 2 ⊗ V 3)) tt in
     record { low = omega (arith, ints); high = omega (arith, ints) }
 
-pub square_within : (m a : ℤ) → IsWithin m a → (a *ℤ a) ≤ℤ (m *ℤ m)
-square_within m a p = (product_within m m a a p p).high
+-- |a| ≤ m and |b| ≤ n give |a + b| ≤ m + n, and |a - b| ≤ m + n
+pub sum_up_to : (m n a b : ℤ) → IsUpTo m a → IsUpTo n b → IsUpTo (m +ℤ n) (a +ℤ b)
+sum_up_to m n a b p q = record { low = omega (arith, ints); high = omega (arith, ints) }
+
+pub difference_up_to : (m n a b : ℤ) → IsUpTo m a → IsUpTo n b → IsUpTo (m +ℤ n) (a -ℤ b)
+difference_up_to m n a b p q = record { low = omega (arith, ints); high = omega (arith, ints) }
+
+pub square_up_to : (m a : ℤ) → IsUpTo m a → (a *ℤ a) ≤ℤ (m *ℤ m)
+square_up_to m a p = (product_up_to m m a a p p).high

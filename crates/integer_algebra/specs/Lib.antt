@@ -1,1 +1,2 @@
 -- The definitions of the crate.
+pub mod Ranges

@@ -1,6 +1,7 @@
 -- The lemmas of the crate.
 
 -- numbers of machine words
+pub mod Stored
 pub mod Ranges
 pub mod Wide
 pub mod Signs

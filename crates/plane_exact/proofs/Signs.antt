@@ -2,7 +2,7 @@
 use Rattle.std.proofs.Common.{◌≡◌, ◌⊎◌, inl, inr, Bool, true, false, true≢false, sym, ◌∙◌, ℤ, ◌≤ℤ◌, ◌<ℤ◌, int_lt, to_z, of_z, w64, ap, arith}
 use Rattle.std.proofs.lemmas.Int.{ints, by_lt_z}
 use Rattle.plane_exact.specs.Product.{IsProduct}
-use Rattle.plane_exact.proofs.Ranges.{wide}
+use Rattle.plane_exact.proofs.Stored.{wide}
 
 pub held : (r d : ℤ) → IsProduct r → r ≡ d → wide r ≡ d
 held r d range e = omega (arith, ints)

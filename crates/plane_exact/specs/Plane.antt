@@ -1,5 +1,6 @@
 -- Points of the plane: grid points, rational points, and the points of a segment.
 use Rattle.std.specs.Prelude.{◌≡◌, Bool, ◌&&◌, ℤ, pos, negsuc, int_le, ◌+ℤ◌, ◌-ℤ◌, ◌*ℤ◌, ◌≤ℤ◌}
+use Rattle.integer_algebra.specs.Ranges.{IsWithin}
 
 -- a point of the grid, in grid units
 pub record GridPoint : Type 0 where
@@ -7,9 +8,8 @@ pub record GridPoint : Type 0 where
   pub y : ℤ
 
 -- from -32768 to 32767
-pub record IsCoordinate (z : ℤ) : Type 0 where
-  pub low : negsuc 32767 ≤ℤ z
-  pub high : z ≤ℤ pos 32767
+abbrev pub IsCoordinate : ℤ → Type 0
+IsCoordinate z = IsWithin (negsuc 32767) (pos 32767) z
 
 -- the same as a test
 abbrev pub is_coordinate : ℤ → Bool

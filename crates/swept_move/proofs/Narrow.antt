@@ -4,11 +4,12 @@ use Rattle.std.proofs.Common.{◌≡◌, ◌↔◌, ℕ, ◌≤◌, ℤ, pos, ne
 use borrow.Author.Differences.{true_is_lt}
 use Rattle.std.proofs.lemmas.Int.{ints, by_lt_z}
 use Rattle.integer_algebra.proofs.Ring.{ring, V, K, ◌⊕◌, ◌⊖◌, ◌⊗◌}
-use Rattle.integer_algebra.proofs.Order.{product_within, times_negative, times_of_nonpos, sign_of_negative}
+use Rattle.integer_algebra.proofs.Order.{product_up_to, times_negative, times_of_nonpos, sign_of_negative}
 use Rattle.plane_exact.specs.Plane.{IsCoordinate}
 use Rattle.plane_exact.specs.Product.{IsProduct}
-use Rattle.plane_exact.proofs.Ranges.{wide, narrow, wide_is}
-use Rattle.plane_exact.proofs.Wide.{widest, held, tested}
+use Rattle.plane_exact.proofs.Stored.{narrow, wide, widest}
+use Rattle.plane_exact.proofs.Ranges.{wide_is}
+use Rattle.plane_exact.proofs.Wide.{held, tested}
 use Rattle.swept_move.specs.Range.{IsMargin}
 
 pub read_product : (r d : ℤ) → IsProduct r → r ≡ d → wide r ≡ d
@@ -18,7 +19,7 @@ read_product r d range e = omega (arith, ints)
 
 pub depths_range : (a b : ℤ) → negsuc 32766 ≤ℤ a → a ≤ℤ pos 32767 → negsuc 32766 ≤ℤ b → b ≤ℤ pos 32767 → IsProduct (wide (wide a *ℤ wide b))
 depths_range a b a_low a_high b_low b_high =
-    let within = product_within (pos 32767) (pos 32767) a b (record { low = omega (arith, ints); high = a_high }) (record { low = omega (arith, ints); high = b_high }) in
+    let within = product_up_to (pos 32767) (pos 32767) a b (record { low = omega (arith, ints); high = a_high }) (record { low = omega (arith, ints); high = b_high }) in
     let low = within.low in
     let high = within.high in
     let read = ap₂ (λ u v. u *ℤ v) (wide_is a (omega (arith, ints))) (wide_is b (omega (arith, ints))) in

@@ -1,12 +1,11 @@
 -- The ranges of the coefficients by which a move is compared with a corner.
-use Rattle.std.specs.Prelude.{ℤ, pos, negsuc, ◌≤ℤ◌}
+use Rattle.std.specs.Prelude.{ℤ, pos}
+use Rattle.integer_algebra.specs.Ranges.{IsUpTo}
 
 -- from -2000^2 * 8589672450 to 2000^2 * 8589672450: the square of SN or SD, times a number of the size of a product
-pub record IsScaled (z : ℤ) : Type 0 where
-  pub low : negsuc 34358689799999999 ≤ℤ z
-  pub high : z ≤ℤ pos 34358689800000000
+abbrev pub IsScaled : ℤ → Type 0
+IsScaled z = IsUpTo (pos 34358689800000000) z
 
 -- twice as wide: the difference of two such numbers
-pub record IsMargin (z : ℤ) : Type 0 where
-  pub low : negsuc 68717379599999999 ≤ℤ z
-  pub high : z ≤ℤ pos 68717379600000000
+abbrev pub IsMargin : ℤ → Type 0
+IsMargin z = IsUpTo (pos 68717379600000000) z

@@ -1,6 +1,6 @@
 -- Answers the goals of `line_at_least`.
 use Rattle.std.proofs.Common.{lit<, ap₂, ◌*◌, ◌*ℤ◌, ◌∙◌, pos}
-use Rattle.integer_algebra.proofs.Order.{product_within}
+use Rattle.integer_algebra.proofs.Order.{product_up_to}
 use Rattle.plane_exact.proofs.Wide.{held, widened_product, product_bounds, square_bounds, product_fits, tested}
 use Rattle.plane_exact.proofs.distance.line_at_least.Goals as goal
 
@@ -20,7 +20,7 @@ times-requires-3 c =
     product_fits (8589672450 * 8589672450) 4000000 _ _ _ _
     (held _ _ (record { sfits = c.times-2.type_inv }) (c.times-2.ensures ∙ ap₂ (λ u v. u *ℤ v) height height))
     (held _ _ (record { sfits = c.squared-2.type_inv }) c.squared-2.ensures)
-    (product_within (pos 8589672450) (pos 8589672450) _ _ bounds bounds)
+    (product_up_to (pos 8589672450) (pos 8589672450) _ _ bounds bounds)
     (square_bounds c.args.den 2000 c.requires.den)
     (lit< tt)
 

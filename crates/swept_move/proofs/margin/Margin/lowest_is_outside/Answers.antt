@@ -1,7 +1,7 @@
 -- Answers the goals of `Margin::lowest_is_outside`.
 use Rattle.std.proofs.Common.{◌≡◌, arith, inl, inr, sym, ◌∙◌, int_le, false, pos}
 use Rattle.std.proofs.lemmas.Int.{ints}
-use Rattle.plane_exact.proofs.Ranges.{wide}
+use Rattle.plane_exact.proofs.Stored.{wide}
 use Rattle.swept_move.proofs.Narrow.{fall_test}
 use Rattle.swept_move.proofs.margin.Margin.lowest_is_outside.Goals as goal
 use Rattle.swept_move.proofs.margin.Margin.lowest_is_outside.Goals.{then-self-le0, else-self-le0}
