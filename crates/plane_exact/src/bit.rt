@@ -4,6 +4,12 @@ ghost use Rattle.plane_exact.specs.Cone.{IsCone};
 
 use std::marker::Model;
 
+/// The greatest numerator and the greatest denominator of a bit's slope.
+pub const MOST_SLOPE: u32 = 2000;
+
+/// The greatest radius that a bit may cut with at the surface, in grid units.
+pub const MOST_RADIUS: u32 = 8191;
+
 /// A conical bit. At depth z, in grid units, its radius at the surface is `sn * z / sd`.
 #[derive(Clone, Copy, Debug, PartialEq, Eq)]
 pub struct Bit {
@@ -31,7 +37,13 @@ impl Bit {
         ensures range { IsSome result ↔ IsCone sn sd rmax }
         ensures value { IfSome result (λ b. b ≡ record { sn = sn; sd = sd; rmax = rmax }) }
     {
-        if 1 <= sn && sn <= 2000 && 1 <= sd && sd <= 2000 && 1 <= rmax && rmax <= 8191 {
+        if 1 <= sn
+            && sn <= MOST_SLOPE
+            && 1 <= sd
+            && sd <= MOST_SLOPE
+            && 1 <= rmax
+            && rmax <= MOST_RADIUS
+        {
             Some(Bit { sn, sd, rmax })
         } else {
             None

@@ -13,10 +13,10 @@ mod point;
 mod product;
 mod segment;
 
-pub use bit::Bit;
+pub use bit::{Bit, MOST_RADIUS, MOST_SLOPE};
 pub use distance::dist_at_least;
 pub use meet::{Meet, cross_kind};
-pub use moves::{LineMove, Move, Place};
+pub use moves::{LineMove, MOST_DEPTH, Move, Place};
 pub use point::{Point, Seg};
 pub use product::{cross, dot};
 pub use segment::passes_through;

@@ -4,6 +4,9 @@ ghost use Rattle.std.specs.Prelude.{◌≡◌};
 use crate::point::Point;
 use std::marker::Model;
 
+/// The greatest height of a place above the surface, and its greatest depth below it, in grid units.
+pub const MOST_DEPTH: u32 = 32_767;
+
 /// A place of the bit's tip: over a grid point, at the height `h` in grid units, from -32,767 to 32,767.
 /// The surface is at the height 0.
 #[derive(Clone, Copy, Debug, PartialEq, Eq)]
