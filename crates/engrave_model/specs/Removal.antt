@@ -1,7 +1,7 @@
 -- What a straight move removes at the surface, and when code is safe: no moment removes a point outside the drawing.
-use Rattle.std.specs.Prelude.{ℤ, pos, neg_ℤ, ◌+ℤ◌, ◌-ℤ◌, ◌*ℤ◌, ◌≤ℤ◌, List, All}
+use Rattle.std.specs.Prelude.{ℤ, neg_ℤ, ◌+ℤ◌, ◌-ℤ◌, ◌*ℤ◌, List, All}
 use Rattle.plane_exact.specs.Cone.{Cone}
-use Rattle.plane_exact.specs.Plane.{RationalPoint}
+use Rattle.plane_exact.specs.Plane.{Fraction, RationalPoint}
 use Rattle.plane_exact.specs.declared.moves.LineMove.{LineMove}
 use Rattle.plane_exact.specs.declared.moves.Move.{Move}
 use Rattle.plane_exact.specs.declared.point.Seg.{Seg}
@@ -9,12 +9,8 @@ use Rattle.engrave_model.specs.Depth.{IsInDisc}
 use Rattle.engrave_model.specs.Inside.{IsInside}
 
 -- the moment k / n of a move, from 0, its start, to 1, its end
-pub record Moment : Type 0 where
-  pub k : ℤ
-  pub n : ℤ
-  pub start : pos 0 ≤ℤ k
-  pub finish : k ≤ℤ n
-  pub some : pos 1 ≤ℤ n
+abbrev pub Moment : Type 0
+Moment = Fraction
 
 -- the value at the moment between one at the start and one at the end, times n
 abbrev pub between : Moment → ℤ → ℤ → ℤ

@@ -7,5 +7,7 @@
 mod depth;
 mod inside;
 
-pub use depth::{MOST_DEPTH, depth_of_height, greatest_depth_by_steps, is_disc_clear, is_edge_clear};
+pub use depth::{
+    MOST_DEPTH, depth_of_height, greatest_depth_by_steps, is_disc_clear, is_edge_clear,
+};
 pub use inside::is_inside;

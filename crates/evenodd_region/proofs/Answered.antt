@@ -7,13 +7,9 @@ use Rattle.engrave_model.specs.Inside.{IsInside, is_counted}
 
 between_same : (a b : GridPoint) (v w : RationalPoint) → w.x ≡ v.x → w.y ≡ v.y → w.over ≡ v.over → IsBetween a b v → IsBetween a b w
 between_same a b v w same_x same_y same_over on = record {
-  k = on.k;
-  n = on.n;
-  start = on.start;
-  finish = on.finish;
-  some = on.some;
-  across = ap (λ z. on.n *ℤ z) same_x ∙ on.across ∙ ap (λ o. o *ℤ (on.n *ℤ a.x +ℤ on.k *ℤ (b.x -ℤ a.x))) (sym same_over);
-  up = ap (λ z. on.n *ℤ z) same_y ∙ on.up ∙ ap (λ o. o *ℤ (on.n *ℤ a.y +ℤ on.k *ℤ (b.y -ℤ a.y))) (sym same_over);
+  at = on.at;
+  across = ap (λ z. on.at.n *ℤ z) same_x ∙ on.across ∙ ap (λ o. o *ℤ (on.at.n *ℤ a.x +ℤ on.at.k *ℤ (b.x -ℤ a.x))) (sym same_over);
+  up = ap (λ z. on.at.n *ℤ z) same_y ∙ on.up ∙ ap (λ o. o *ℤ (on.at.n *ℤ a.y +ℤ on.at.k *ℤ (b.y -ℤ a.y))) (sym same_over);
 }
 
 count_same : (edges : List Seg) (v w : RationalPoint) → w.x ≡ v.x → w.y ≡ v.y → w.over ≡ v.over

@@ -94,7 +94,7 @@ shorter m o q k n X Y x y num den m_some o_some q_some start finish some across 
 
 pub way_closer : (num den : ℤ) (v w u : RationalPoint) → IsOnPath v w u → IsCloser num den v w → IsCloser num den v u
 way_closer num den v w u on close =
-    shorter v.over w.over u.over on.k on.n _ _ _ _ num den v.positive w.positive u.positive on.start on.finish on.some
-    (way_part v.over v.x w.over w.x u.over u.x on.k on.n on.across)
-    (way_part v.over v.y w.over w.y u.over u.y on.k on.n on.up)
+    shorter v.over w.over u.over on.at.k on.at.n _ _ _ _ num den v.positive w.positive u.positive on.at.start on.at.finish on.at.some
+    (way_part v.over v.x w.over w.x u.over u.x on.at.k on.at.n on.across)
+    (way_part v.over v.y w.over w.y u.over u.y on.at.k on.at.n on.up)
     close

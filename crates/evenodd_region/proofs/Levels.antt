@@ -157,20 +157,12 @@ module _ (v w : RationalPoint) (a b : GridPoint) where
       record {
         point = record { x = mix l.at_a l.at_b a.x b.x; y = mix l.at_a l.at_b a.y b.y; over = n; positive = l.some };
         on_path = record {
-          k = l.at_w *ℤ w.over;
-          n = n;
-          start = times_nonneg l.at_w w.over l.w_sign (omega (arith, ints));
-          finish = omega (arith, ints);
-          some = l.some;
+          at = record { k = l.at_w *ℤ w.over; n = n; start = times_nonneg l.at_w w.over l.w_sign (omega (arith, ints)); finish = omega (arith, ints); some = l.some };
           across = path_place l.at_v l.at_w v.x v.over w.x w.over n _ over across;
           up = path_place l.at_v l.at_w v.y v.over w.y w.over n _ over l.height;
         };
         on_edge = record {
-          k = l.at_b;
-          n = n;
-          start = l.b_sign;
-          finish = omega (arith, ints);
-          some = l.some;
+          at = record { k = l.at_b; n = n; start = l.b_sign; finish = omega (arith, ints); some = l.some };
           across = edge_place l.at_a l.at_b a.x b.x;
           up = edge_place l.at_a l.at_b a.y b.y;
         };

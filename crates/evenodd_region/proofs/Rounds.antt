@@ -12,6 +12,7 @@ use Rattle.plane_exact.specs.Plane.{GridPoint, RationalPoint}
 use Rattle.plane_exact.specs.declared.point.Seg.{Seg}
 use Rattle.engrave_model.specs.Drawing.{edges_back_to, edges_of_loop, edges_of}
 use Rattle.engrave_model.specs.Inside.{is_counted}
+use Rattle.plane_exact.proofs.Fractions.{first, last}
 use Rattle.evenodd_region.specs.Parity.{IsOnPath, IsPathFree, IsPathOff, ParityLaw, exactly_one, is_right_of_path}
 use Rattle.evenodd_region.proofs.OneEdge.{edge_law}
 
@@ -114,22 +115,14 @@ at_end v m w o =
 module _ (v w : RationalPoint) where
   starts_path : IsOnPath v w v
   starts_path = record {
-    k = pos 0;
-    n = pos 1;
-    start = record { le = tt };
-    finish = record { le = tt };
-    some = record { le = tt };
+    at = first;
     across = at_start v.x v.over w.x w.over;
     up = at_start v.y v.over w.y w.over;
   }
 
   ends_path : IsOnPath v w w
   ends_path = record {
-    k = pos 1;
-    n = pos 1;
-    start = record { le = tt };
-    finish = record { le = tt };
-    some = record { le = tt };
+    at = last;
     across = at_end v.x v.over w.x w.over;
     up = at_end v.y v.over w.y w.over;
   }

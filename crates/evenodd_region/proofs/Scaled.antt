@@ -27,24 +27,16 @@ module _ (w : RationalPoint) (a b : GridPoint) where
 
   to_scaled : IsBetween a b w → IsBetween (scaled w.over a) (scaled w.over b) (rational (numerators w))
   to_scaled on = record {
-    k = on.k;
-    n = on.n;
-    start = on.start;
-    finish = on.finish;
-    some = on.some;
-    across = on.across ∙ between_scaled w.over on.k on.n a.x b.x;
-    up = on.up ∙ between_scaled w.over on.k on.n a.y b.y;
+    at = on.at;
+    across = on.across ∙ between_scaled w.over on.at.k on.at.n a.x b.x;
+    up = on.up ∙ between_scaled w.over on.at.k on.at.n a.y b.y;
   }
 
   from_scaled : IsBetween (scaled w.over a) (scaled w.over b) (rational (numerators w)) → IsBetween a b w
   from_scaled on = record {
-    k = on.k;
-    n = on.n;
-    start = on.start;
-    finish = on.finish;
-    some = on.some;
-    across = on.across ∙ sym (between_scaled w.over on.k on.n a.x b.x);
-    up = on.up ∙ sym (between_scaled w.over on.k on.n a.y b.y);
+    at = on.at;
+    across = on.across ∙ sym (between_scaled w.over on.at.k on.at.n a.x b.x);
+    up = on.up ∙ sym (between_scaled w.over on.at.k on.at.n a.y b.y);
   }
 
   turn_is : cross_of (scaled w.over a) (scaled w.over b) (numerators w) ≡ turn w a b

@@ -5,10 +5,11 @@ use Rattle.std.proofs.Common.{◌≡◌, ◌<◌, nat_lt, Bool, true, false, ref
 use Rattle.std.proofs.lemmas.Int.{ints, by_lt_z}
 use Rattle.integer_algebra.proofs.Ring.{ring, V, K, M, ◌⊕◌, ◌⊖◌, ◌⊗◌}
 use Rattle.integer_algebra.proofs.Order.{mix, mix_nonneg, times_nonneg, times_pos}
-use Rattle.plane_exact.specs.Plane.{GridPoint, RationalPoint, rational}
+use Rattle.plane_exact.specs.Plane.{Fraction, GridPoint, RationalPoint, rational}
 use Rattle.plane_exact.specs.declared.moves.Move.{Move}
 use Rattle.engrave_model.specs.Clear.{depth_of, IsDeep, first_deep}
 use Rattle.engrave_model.specs.Removal.{Moment, between, place_at, depth_at}
+use Rattle.plane_exact.proofs.Fractions.{first, last}
 use Rattle.evenodd_region.specs.Parity.{IsOnPath}
 use Rattle.evenodd_region.proofs.Discs.{IsSamePlace}
 
@@ -24,8 +25,14 @@ some_of_both i j p q i_sign j_sign p_some q_some (inr some) =
     let second = times_pos j q some q_some in
     omega (arith, ints)
 
-module _ (s t : Moment) (k n : ℤ) (start : pos 0 ≤ℤ k) (finish : k ≤ℤ n) (some : pos 1 ≤ℤ n) where
-  -- the weights of both moments' numbers at k / n of the way between the places
+module _ (s t : Moment) (at : Fraction) where
+  abbrev k : ℤ
+  k = at.k
+
+  abbrev n : ℤ
+  n = at.n
+
+  -- the weights of both moments' numbers at that fraction of the way between the places
   abbrev of_s : ℤ
   of_s = (n -ℤ k) *ℤ t.n
 
@@ -33,15 +40,16 @@ module _ (s t : Moment) (k n : ℤ) (start : pos 0 ≤ℤ k) (finish : k ≤ℤ 
   of_t = k *ℤ s.n
 
   s_sign : pos 0 ≤ℤ of_s
-  s_sign = let whole = t.some in times_nonneg (n -ℤ k) t.n (omega (arith, ints)) (omega (arith, ints))
+  s_sign = let whole = t.some in let finish = at.finish in times_nonneg (n -ℤ k) t.n (omega (arith, ints)) (omega (arith, ints))
 
   t_sign : pos 0 ≤ℤ of_t
-  t_sign = let whole = s.some in times_nonneg k s.n start (omega (arith, ints))
+  t_sign = let whole = s.some in times_nonneg k s.n at.start (omega (arith, ints))
 
   one_some : (pos 0 <ℤ of_s) ⊎ (pos 0 <ℤ of_t)
   one_some =
       let s_whole = s.some in
       let t_whole = t.some in
+      let some = at.some in
       by_lt_z k n
       (λ l. inl (times_pos (n -ℤ k) t.n (omega (arith, ints)) (omega (arith, ints))))
       (λ l. inr (times_pos k s.n (omega (arith, ints)) (omega (arith, ints))))
@@ -101,11 +109,11 @@ pub way_deep : (mv : Move) (s t : Moment) (u : RationalPoint) → pos 0 <ℤ dep
     → IsOnPath (place_at mv s) (place_at mv t) u → IsDeepPlace mv u
 unfolding moment_between
 way_deep mv s t u s_deep t_deep on = record {
-  moment = moment_between s t on.k on.n on.start on.finish on.some;
-  deep = deep_between s t on.k on.n on.start on.finish on.some mv s_deep t_deep;
+  moment = moment_between s t on.at;
+  deep = deep_between s t on.at mv s_deep t_deep;
   same = record {
-    across = same_between s t on.k on.n on.start on.finish on.some mv.from.at.x mv.to.at.x u.x u.over on.across;
-    up = same_between s t on.k on.n on.start on.finish on.some mv.from.at.y mv.to.at.y u.y u.over on.up;
+    across = same_between s t on.at mv.from.at.x mv.to.at.x u.x u.over on.across;
+    up = same_between s t on.at mv.from.at.y mv.to.at.y u.y u.over on.up;
   };
 }
 
@@ -119,16 +127,10 @@ pub not_below_surface : (h : ℤ) → ¬ (0 < depth_of h) → pos 0 ≤ℤ h
 not_below_surface (pos n) flat = omega (arith, ints)
 not_below_surface (negsuc n) flat = absurd (flat (omega arith))
 
-abbrev pub first_moment : Moment
-first_moment = record { k = pos 0; n = pos 1; start = record { le = tt }; finish = record { le = tt }; some = record { le = tt } }
-
-abbrev pub last_moment : Moment
-last_moment = record { k = pos 1; n = pos 1; start = record { le = tt }; finish = record { le = tt }; some = record { le = tt } }
-
-at_first : (f l : ℤ) → f ≡ between first_moment f l
+at_first : (f l : ℤ) → f ≡ between first f l
 at_first f l = ring (f ∷ l ∷ []) (V 0) ((K (pos 1) ⊖ K (pos 0)) ⊗ V 0 ⊕ K (pos 0) ⊗ V 1) tt
 
-at_last : (f l : ℤ) → l ≡ between last_moment f l
+at_last : (f l : ℤ) → l ≡ between last f l
 at_last f l = ring (f ∷ l ∷ []) (V 1) ((K (pos 1) ⊖ K (pos 1)) ⊗ V 0 ⊕ K (pos 1) ⊗ V 1) tt
 
 same_rational : (x y x' y' : ℤ) → x ≡ x' → y ≡ y'
@@ -146,7 +148,7 @@ deep_first mv deep =
     let h = below_surface mv.from.h deep in
     let is = at_first mv.from.h mv.to.h in
     record {
-      moment = first_moment;
+      moment = first;
       deep = omega (arith, ints);
       same = same_rational _ _ _ _ (at_first mv.from.at.x mv.to.at.x) (at_first mv.from.at.y mv.to.at.y);
     }
@@ -156,7 +158,7 @@ deep_last mv deep =
     let h = below_surface mv.to.h deep in
     let is = at_last mv.from.h mv.to.h in
     record {
-      moment = last_moment;
+      moment = last;
       deep = omega (arith, ints);
       same = same_rational _ _ _ _ (at_last mv.from.at.x mv.to.at.x) (at_last mv.from.at.y mv.to.at.y);
     }

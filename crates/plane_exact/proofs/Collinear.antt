@@ -3,18 +3,15 @@ use Rattle.std.proofs.Common.{◌≡◌, ℤ, pos, ◌+ℤ◌, ◌-ℤ◌, ◌*�
 use Rattle.std.proofs.lemmas.Int.{ints, by_lt_z}
 use Rattle.integer_algebra.proofs.Ring.{ring, V, K, ◌⊕◌, ◌⊖◌, ◌⊗◌}
 use Rattle.integer_algebra.proofs.Order.{square_nonneg, times_nonpos, times_pos, times_le, times_lt, times_zero, cancel_same, sign_of_nonpos, squares_zero}
-use Rattle.plane_exact.specs.Plane.{GridPoint, IsBetween, rational}
+use Rattle.plane_exact.specs.Plane.{Fraction, GridPoint, IsBetween, rational}
 use Rattle.plane_exact.specs.Product.{cross_of, dot_of}
+use Rattle.plane_exact.proofs.Fractions.{first}
 
 -- f is (k / n) d, for some k from 0 to n
 record IsPart (fx fy dx dy : ℤ) : Type 0 where
-  k : ℤ
-  n : ℤ
-  start : pos 0 ≤ℤ k
-  finish : k ≤ℤ n
-  some : pos 1 ≤ℤ n
-  across : n *ℤ fx ≡ k *ℤ dx
-  up : n *ℤ fy ≡ k *ℤ dy
+  at : Fraction
+  across : at.n *ℤ fx ≡ at.k *ℤ dx
+  up : at.n *ℤ fy ≡ at.k *ℤ dy
 
 -- F L ≡ P P and F ≤ P
 shorter : (F P L : ℤ) → pos 0 ≤ℤ L → F *ℤ L ≡ P *ℤ P → F ≤ℤ P → P ≤ℤ L
@@ -61,11 +58,7 @@ module _ (fx fy dx dy : ℤ) where
       let none : T *ℤ T ≡ pos 0 = ap (λ z. T *ℤ z) level ∙ times_zero T in
       let squares = ring xs (f ⊗ l) (p ⊗ p ⊕ t ⊗ t) tt in
       record {
-        k = P;
-        n = L;
-        start = omega (arith, ints);
-        finish = shorter F P L l_nonneg (omega (arith, ints)) near;
-        some = omega (arith, ints);
+        at = record { k = P; n = L; start = omega (arith, ints); finish = shorter F P L l_nonneg (omega (arith, ints)) near; some = omega (arith, ints) };
         across = (foot dx dy fx fy level).0;
         up = (foot dx dy fx fy level).1;
       })
@@ -76,20 +69,16 @@ module _ (fx fy dx dy : ℤ) where
       let at_x = at_start.0 in
       let at_y = at_start.1 in
       record {
-        k = pos 0;
-        n = pos 1;
-        start = record { le = tt };
-        finish = record { le = tt };
-        some = record { le = tt };
+        at = first;
         across = omega (arith, ints);
         up = omega (arith, ints);
       })
 
   level_of : IsPart fx fy dx dy → dx *ℤ fy -ℤ dy *ℤ fx ≡ pos 0
   level_of part =
-      let k = part.k in
-      let n = part.n in
-      let some = part.some in
+      let k = part.at.k in
+      let n = part.at.n in
+      let some = part.at.some in
       let xs = fx ∷ fy ∷ dx ∷ dy ∷ k ∷ n ∷ [] in
       cancel_same n _ (pos 0) (omega (arith, ints))
       (ring xs (V 5 ⊗ (V 2 ⊗ V 1 ⊖ V 3 ⊗ V 0)) (V 2 ⊗ (V 5 ⊗ V 1) ⊖ V 3 ⊗ (V 5 ⊗ V 0)) tt
@@ -98,11 +87,11 @@ module _ (fx fy dx dy : ℤ) where
 
   near_of : IsPart fx fy dx dy → (fx *ℤ fx +ℤ fy *ℤ fy -ℤ (dx *ℤ fx +ℤ dy *ℤ fy)) ≤ℤ pos 0
   near_of part =
-      let k = part.k in
-      let n = part.n in
-      let some = part.some in
-      let start = part.start in
-      let finish = part.finish in
+      let k = part.at.k in
+      let n = part.at.n in
+      let some = part.at.some in
+      let start = part.at.start in
+      let finish = part.at.finish in
       let L = dx *ℤ dx +ℤ dy *ℤ dy in
       let l_nonneg : pos 0 ≤ℤ L = (let p = square_nonneg dx in let q = square_nonneg dy in omega (arith, ints)) in
       let whole : pos 0 <ℤ (n *ℤ n) = times_pos n n (omega (arith, ints)) (omega (arith, ints)) in
@@ -135,13 +124,9 @@ moved a b p k n e =
 module _ (a b p : GridPoint) where
   the_part : IsBetween a b (rational p) → IsPart (p.x -ℤ a.x) (p.y -ℤ a.y) (b.x -ℤ a.x) (b.y -ℤ a.y)
   the_part on = record {
-    k = on.k;
-    n = on.n;
-    start = on.start;
-    finish = on.finish;
-    some = on.some;
-    across = moved a.x b.x p.x on.k on.n on.across;
-    up = moved a.y b.y p.y on.k on.n on.up;
+    at = on.at;
+    across = moved a.x b.x p.x on.at.k on.at.n on.across;
+    up = moved a.y b.y p.y on.at.k on.at.n on.up;
   }
 
   -- what the dot product of the ways from p to both ends is
@@ -156,13 +141,9 @@ module _ (a b p : GridPoint) where
       let is = facing in
       let part = part_of (p.x -ℤ a.x) (p.y -ℤ a.y) (b.x -ℤ a.x) (b.y -ℤ a.y) level (omega (arith, ints)) in
       record {
-        k = part.k;
-        n = part.n;
-        start = part.start;
-        finish = part.finish;
-        some = part.some;
-        across = placed a.x b.x p.x part.k part.n part.across;
-        up = placed a.y b.y p.y part.k part.n part.up;
+        at = part.at;
+        across = placed a.x b.x p.x part.at.k part.at.n part.across;
+        up = placed a.y b.y p.y part.at.k part.at.n part.up;
       }
 
   pub on_line : IsBetween a b (rational p) → cross_of a b p ≡ pos 0

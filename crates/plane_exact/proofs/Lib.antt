@@ -6,6 +6,7 @@ pub mod Ranges
 pub mod Wide
 pub mod Signs
 -- `dist_at_least`
+pub mod Fractions
 pub mod Nearest
 pub mod Apart
 -- `passes_through`

@@ -88,51 +88,53 @@ module _ (s t : Seg) (start_level : cross_of s.a s.b t.a ≡ pos 0) (finish_leve
       record {
         first = between s.a s.b k (place k) along.start along.finish (on_first k);
         second = record {
-          k = k -ℤ dot_of s.a s.b t.a;
-          n = dot_of s.a s.b t.b -ℤ dot_of s.a s.b t.a;
-          start = omega (arith, ints);
-          finish = omega (arith, ints);
-          some = omega (arith, ints);
+          at = record {
+            k = k -ℤ dot_of s.a s.b t.a;
+            n = dot_of s.a s.b t.b -ℤ dot_of s.a s.b t.a;
+            start = omega (arith, ints);
+            finish = omega (arith, ints);
+            some = omega (arith, ints);
+          };
           across = laid (dot_of s.a s.b s.b) (dot_of s.a s.b t.a) (dot_of s.a s.b t.b) k s.a.x s.b.x t.a.x t.b.x (foot_of s t.a start_level).0 (foot_of s t.b finish_level).0;
           up = laid (dot_of s.a s.b s.b) (dot_of s.a s.b t.a) (dot_of s.a s.b t.b) k s.a.y s.b.y t.a.y t.b.y (foot_of s t.a start_level).1 (foot_of s t.b finish_level).1;
         };
       }
 
-  within : (w : RationalPoint) (on : IsCommon s t w) → IsFrom on.first.k on.first.n (dot_of s.a s.b s.b) (dot_of s.a s.b t.a) (dot_of s.a s.b t.b)
-  within w on = let q = on.second in from_feet on.first.k on.first.n q.k q.n _ _ _ q.start q.finish q.some on.first.some forward (by_feet s.a s.b t.a t.b w on.first on.second)
+  within : (w : RationalPoint) (on : IsCommon s t w) → IsFrom on.first.at.k on.first.at.n (dot_of s.a s.b s.b) (dot_of s.a s.b t.a) (dot_of s.a s.b t.b)
+  within w on = let q = on.second in from_feet on.first.at.k on.first.at.n q.at.k q.at.n _ _ _ q.at.start q.at.finish q.at.some on.first.at.some forward (by_feet s.a s.b t.a t.b w on.first on.second)
 
   -- what the place of a point of the first is bounded by
-  from_start : (w : RationalPoint) (on : IsCommon s t w) → pos 0 ≤ℤ (on.first.k *ℤ dot_of s.a s.b s.b)
-  from_start w on = let some = long in times_nonneg on.first.k (dot_of s.a s.b s.b) on.first.start (omega (arith, ints))
+  from_start : (w : RationalPoint) (on : IsCommon s t w) → pos 0 ≤ℤ (on.first.at.k *ℤ dot_of s.a s.b s.b)
+  from_start w on = let some = long in times_nonneg on.first.at.k (dot_of s.a s.b s.b) on.first.at.start (omega (arith, ints))
 
-  to_finish : (w : RationalPoint) (on : IsCommon s t w) → (on.first.k *ℤ dot_of s.a s.b s.b) ≤ℤ (on.first.n *ℤ dot_of s.a s.b s.b)
+  to_finish : (w : RationalPoint) (on : IsCommon s t w) → (on.first.at.k *ℤ dot_of s.a s.b s.b) ≤ℤ (on.first.at.n *ℤ dot_of s.a s.b s.b)
   to_finish w on =
       let some = long in
-      let finish = on.first.finish in
+      let finish = on.first.at.finish in
       let L = dot_of s.a s.b s.b in
-      let p = times_le L on.first.k on.first.n (omega (arith, ints)) finish in
-      let e = ring (L ∷ on.first.k ∷ []) (V 0 ⊗ V 1) (V 1 ⊗ V 0) tt in
-      let f = ring (L ∷ on.first.n ∷ []) (V 0 ⊗ V 1) (V 1 ⊗ V 0) tt in
+      let p = times_le L on.first.at.k on.first.at.n (omega (arith, ints)) finish in
+      let e = ring (L ∷ on.first.at.k ∷ []) (V 0 ⊗ V 1) (V 1 ⊗ V 0) tt in
+      let f = ring (L ∷ on.first.at.n ∷ []) (V 0 ⊗ V 1) (V 1 ⊗ V 0) tt in
       omega (arith, ints)
 
   pub none_before : dot_of s.a s.b t.b <ℤ pos 0 → (w : RationalPoint) → ¬ IsCommon s t w
   none_before h w on =
-      let some = on.first.some in
+      let some = on.first.at.some in
       let high = (within w on).high in
       let p = from_start w on in
-      let q = times_negative on.first.n (dot_of s.a s.b t.b) (omega (arith, ints)) h in
+      let q = times_negative on.first.at.n (dot_of s.a s.b t.b) (omega (arith, ints)) h in
       omega (arith, ints)
 
   pub none_after : dot_of s.a s.b s.b <ℤ dot_of s.a s.b t.a → (w : RationalPoint) → ¬ IsCommon s t w
   none_after h w on =
-      let some = on.first.some in
+      let some = on.first.at.some in
       let low = (within w on).low in
       let p = to_finish w on in
-      let q = times_lt on.first.n (dot_of s.a s.b s.b) (dot_of s.a s.b t.a) (omega (arith, ints)) h in
+      let q = times_lt on.first.at.n (dot_of s.a s.b s.b) (dot_of s.a s.b t.a) (omega (arith, ints)) h in
       omega (arith, ints)
 
   -- each common point is at this one place
-  one_at : (k : ℤ) → IsAlong k → ((v : RationalPoint) (on : IsCommon s t v) → on.first.k *ℤ dot_of s.a s.b s.b ≡ on.first.n *ℤ k)
+  one_at : (k : ℤ) → IsAlong k → ((v : RationalPoint) (on : IsCommon s t v) → on.first.at.k *ℤ dot_of s.a s.b s.b ≡ on.first.at.n *ℤ k)
       → IsEndOfBoth s t (place k) → HasOne s t (IsEndOfBoth s t)
   one_at k along here ends = record { point = place k; common = common k along; only = (λ v on. same_place s.a s.b v on.first _ _ long (here v on)); these = ends }
 
@@ -143,7 +145,7 @@ module _ (s t : Seg) (start_level : cross_of s.a s.b t.a ≡ pos 0) (finish_leve
       (λ v on.
       let high = (within v on).high in
       let p = from_start v on in
-      let e = ap (λ z. on.first.n *ℤ z) h in
+      let e = ap (λ z. on.first.at.n *ℤ z) h in
       omega (arith, ints))
       (at_end s.a s.b _ (place (dot_of s.a s.b t.b)) (on_first (dot_of s.a s.b t.b)) (inl h), inr (end_place t.b finish_level))
 
@@ -154,7 +156,7 @@ module _ (s t : Seg) (start_level : cross_of s.a s.b t.a ≡ pos 0) (finish_leve
       (λ v on.
       let low = (within v on).low in
       let p = to_finish v on in
-      let e = ap (λ z. on.first.n *ℤ z) h in
+      let e = ap (λ z. on.first.at.n *ℤ z) h in
       omega (arith, ints))
       (at_end s.a s.b _ (place (dot_of s.a s.b t.a)) (on_first (dot_of s.a s.b t.a)) (inr h), inl (end_place t.a start_level))
 

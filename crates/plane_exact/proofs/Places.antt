@@ -17,7 +17,7 @@ pub record IsAt (a b : GridPoint) (k : ℤ) (w : RationalPoint) : Type 0 where
   pub up : w.y ≡ w.over *ℤ a.y +ℤ k *ℤ (b.y -ℤ a.y)
 
 pub between : (a b : GridPoint) (k : ℤ) (w : RationalPoint) → pos 0 ≤ℤ k → k ≤ℤ w.over → IsAt a b k w → IsBetween a b w
-between a b k w start finish is = record { k = k; n = w.over; start = start; finish = finish; some = w.positive; across = ap (λ z. w.over *ℤ z) is.across; up = ap (λ z. w.over *ℤ z) is.up }
+between a b k w start finish is = record { at = record { k = k; n = w.over; start = start; finish = finish; some = w.positive }; across = ap (λ z. w.over *ℤ z) is.across; up = ap (λ z. w.over *ℤ z) is.up }
 
 -- ---- points of two segments
 
@@ -32,20 +32,20 @@ agreed n m o p q z h e f =
     ∙ ring xs (V 0 ⊗ (V 2 ⊗ V 4)) (V 2 ⊗ (V 0 ⊗ V 4)) tt)
 
 module _ (a b c g : GridPoint) (w : RationalPoint) (p : IsBetween a b w) (q : IsBetween c g w) where
-  agreed_across : q.n *ℤ (p.n *ℤ a.x +ℤ p.k *ℤ (b.x -ℤ a.x)) ≡ p.n *ℤ (q.n *ℤ c.x +ℤ q.k *ℤ (g.x -ℤ c.x))
-  agreed_across = let positive = w.positive in agreed p.n q.n w.over _ _ w.x (omega (arith, ints)) p.across q.across
+  agreed_across : q.at.n *ℤ (p.at.n *ℤ a.x +ℤ p.at.k *ℤ (b.x -ℤ a.x)) ≡ p.at.n *ℤ (q.at.n *ℤ c.x +ℤ q.at.k *ℤ (g.x -ℤ c.x))
+  agreed_across = let positive = w.positive in agreed p.at.n q.at.n w.over _ _ w.x (omega (arith, ints)) p.across q.across
 
-  agreed_up : q.n *ℤ (p.n *ℤ a.y +ℤ p.k *ℤ (b.y -ℤ a.y)) ≡ p.n *ℤ (q.n *ℤ c.y +ℤ q.k *ℤ (g.y -ℤ c.y))
-  agreed_up = let positive = w.positive in agreed p.n q.n w.over _ _ w.y (omega (arith, ints)) p.up q.up
+  agreed_up : q.at.n *ℤ (p.at.n *ℤ a.y +ℤ p.at.k *ℤ (b.y -ℤ a.y)) ≡ p.at.n *ℤ (q.at.n *ℤ c.y +ℤ q.at.k *ℤ (g.y -ℤ c.y))
+  agreed_up = let positive = w.positive in agreed p.at.n q.at.n w.over _ _ w.y (omega (arith, ints)) p.up q.up
 
   -- the place along the first by the heights of its ends over the second
-  pub by_heights : p.k *ℤ (cross_of c g a -ℤ cross_of c g b) ≡ p.n *ℤ cross_of c g a
+  pub by_heights : p.at.k *ℤ (cross_of c g a -ℤ cross_of c g b) ≡ p.at.n *ℤ cross_of c g a
   by_heights =
-      let k = p.k in
-      let n = p.n in
-      let l = q.k in
-      let m = q.n in
-      let some = q.some in
+      let k = p.at.k in
+      let n = p.at.n in
+      let l = q.at.k in
+      let m = q.at.n in
+      let some = q.at.some in
       let xs = a.x ∷ a.y ∷ b.x ∷ b.y ∷ c.x ∷ c.y ∷ g.x ∷ g.y ∷ k ∷ n ∷ l ∷ m ∷ [] in
       let ex = V 6 ⊖ V 4 in
       let ey = V 7 ⊖ V 5 in
@@ -58,12 +58,12 @@ module _ (a b c g : GridPoint) (w : RationalPoint) (p : IsBetween a b w) (q : Is
       cancel_same m (k *ℤ (cross_of c g a -ℤ cross_of c g b)) (n *ℤ cross_of c g a) (omega (arith, ints)) (omega (arith, ints))
 
   -- the place along the first by the feet of the ends of the second
-  pub by_feet : q.n *ℤ (p.k *ℤ dot_of a b b) ≡ p.n *ℤ (q.n *ℤ dot_of a b c +ℤ q.k *ℤ (dot_of a b g -ℤ dot_of a b c))
+  pub by_feet : q.at.n *ℤ (p.at.k *ℤ dot_of a b b) ≡ p.at.n *ℤ (q.at.n *ℤ dot_of a b c +ℤ q.at.k *ℤ (dot_of a b g -ℤ dot_of a b c))
   by_feet =
-      let k = p.k in
-      let n = p.n in
-      let l = q.k in
-      let m = q.n in
+      let k = p.at.k in
+      let n = p.at.n in
+      let l = q.at.k in
+      let m = q.at.n in
       let xs = a.x ∷ a.y ∷ b.x ∷ b.y ∷ c.x ∷ c.y ∷ g.x ∷ g.y ∷ k ∷ n ∷ l ∷ m ∷ [] in
       let dx = V 2 ⊖ V 0 in
       let dy = V 3 ⊖ V 1 in
@@ -87,11 +87,11 @@ same_coordinate n k N P o z a d h e f =
     ∙ ap (λ u. o *ℤ (n *ℤ (N *ℤ a) +ℤ u *ℤ d)) f
     ∙ ring xs (V 4 ⊗ (V 0 ⊗ (V 2 ⊗ V 6) ⊕ (V 0 ⊗ V 3) ⊗ V 7)) (V 0 ⊗ ((V 2 ⊗ V 6 ⊕ V 3 ⊗ V 7) ⊗ V 4)) tt)
 
-pub same_place : (a b : GridPoint) (v : RationalPoint) (p : IsBetween a b v) (k n : ℤ) (some : pos 1 ≤ℤ n) → p.k *ℤ n ≡ p.n *ℤ k → IsSame v (at a b k n some)
+pub same_place : (a b : GridPoint) (v : RationalPoint) (p : IsBetween a b v) (k n : ℤ) (some : pos 1 ≤ℤ n) → p.at.k *ℤ n ≡ p.at.n *ℤ k → IsSame v (at a b k n some)
 same_place a b v p k n some e =
     record {
-      across = same_coordinate p.n p.k n k v.over v.x a.x (b.x -ℤ a.x) p.some p.across e;
-      up = same_coordinate p.n p.k n k v.over v.y a.y (b.y -ℤ a.y) p.some p.up e;
+      across = same_coordinate p.at.n p.at.k n k v.over v.x a.x (b.x -ℤ a.x) p.at.some p.across e;
+      up = same_coordinate p.at.n p.at.k n k v.over v.y a.y (b.y -ℤ a.y) p.at.some p.up e;
     }
 
 -- ---- ends

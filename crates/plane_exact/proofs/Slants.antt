@@ -44,10 +44,10 @@ module _ (s t : Seg) where
   -- a point of both, where the lines are parallel, has both on one line
   pub on_one_line : (w : RationalPoint) → IsCommon s t w → cross_of s.a s.b t.a ≡ cross_of s.a s.b t.b → cross_of s.a s.b t.a ≡ pos 0
   on_one_line w on flat =
-      let some = on.second.some in
+      let some = on.second.at.some in
       let e = by_heights t.a t.b s.a s.b w on.second on.first in
-      let none : on.second.k *ℤ (cross_of s.a s.b t.a -ℤ cross_of s.a s.b t.b) ≡ pos 0 = ap (λ z. on.second.k *ℤ z) (no_difference flat) ∙ times_zero on.second.k in
-      cancel_same on.second.n _ (pos 0) (omega (arith, ints)) (sym e ∙ none ∙ sym (times_zero on.second.n))
+      let none : on.second.at.k *ℤ (cross_of s.a s.b t.a -ℤ cross_of s.a s.b t.b) ≡ pos 0 = ap (λ z. on.second.at.k *ℤ z) (no_difference flat) ∙ times_zero on.second.at.k in
+      cancel_same on.second.at.n _ (pos 0) (omega (arith, ints)) (sym e ∙ none ∙ sym (times_zero on.second.at.n))
     where
       no_difference : {x y : ℤ} → x ≡ y → x -ℤ y ≡ pos 0
       no_difference e = omega (arith, ints)
@@ -75,24 +75,24 @@ module _ (s t : Seg) where
         }
 
     only : (v : RationalPoint) → IsCommon s t v → IsSame v joint
-    only v on = same_place s.a s.b v on.first _ _ some (ap (λ z. on.first.k *ℤ z) (sym heights) ∙ by_heights s.a s.b t.a t.b v on.first on.second)
+    only v on = same_place s.a s.b v on.first _ _ some (ap (λ z. on.first.at.k *ℤ z) (sym heights) ∙ by_heights s.a s.b t.a t.b v on.first on.second)
 
     pub straddles_second : (w : RationalPoint) → IsCommon s t w → (cross_of t.a t.b s.b ≤ℤ pos 0) × (pos 0 ≤ℤ cross_of t.a t.b s.a)
     straddles_second w on =
         let turned = heights in
         let p = on.first in
-        bounds p.k p.n (cross_of t.a t.b s.a) (cross_of t.a t.b s.b) p.start p.finish p.some (omega (arith, ints)) (by_heights s.a s.b t.a t.b w on.first on.second)
+        bounds p.at.k p.at.n (cross_of t.a t.b s.a) (cross_of t.a t.b s.b) p.at.start p.at.finish p.at.some (omega (arith, ints)) (by_heights s.a s.b t.a t.b w on.first on.second)
 
     pub straddles_first : (w : RationalPoint) → IsCommon s t w → (cross_of s.a s.b t.a ≤ℤ pos 0) × (pos 0 ≤ℤ cross_of s.a s.b t.b)
     straddles_first w on =
         let p = on.second in
         let F = cross_of s.a s.b t.a in
         let T = cross_of s.a s.b t.b in
-        let xs = p.k ∷ p.n ∷ F ∷ T ∷ [] in
+        let xs = p.at.k ∷ p.at.n ∷ F ∷ T ∷ [] in
         let e = by_heights t.a t.b s.a s.b w on.second on.first in
         let back = ring xs (V 0 ⊗ (M (V 2) ⊖ M (V 3))) (M (V 0 ⊗ (V 2 ⊖ V 3))) tt in
         let over = ring xs (V 1 ⊗ M (V 2)) (M (V 1 ⊗ V 2)) tt in
-        let h = bounds p.k p.n (neg_ℤ F) (neg_ℤ T) p.start p.finish p.some (omega (arith, ints)) (omega (arith, ints)) in
+        let h = bounds p.at.k p.at.n (neg_ℤ F) (neg_ℤ T) p.at.start p.at.finish p.at.some (omega (arith, ints)) (omega (arith, ints)) in
         let low = h.0 in
         let high = h.1 in
         (omega (arith, ints), omega (arith, ints))

@@ -9,6 +9,7 @@ use Rattle.plane_exact.specs.Meet.{IsSame, IsCommon, IsEnd, IsMeet}
 use Rattle.plane_exact.specs.declared.point.Seg.{Seg}
 use Rattle.plane_exact.specs.declared.meet.Meet.{Meet}
 use Rattle.plane_exact.specs.declared.meet.Meet.TheVariants.{Apart, AtEnds, Crosses, Overlaps}
+use Rattle.plane_exact.proofs.Fractions.{turned}
 use Rattle.plane_exact.proofs.Overlaps.{foot_of}
 
 turned_coordinate : (n k o z a b : ℤ) → n *ℤ z ≡ o *ℤ (n *ℤ b +ℤ k *ℤ (a -ℤ b)) → n *ℤ z ≡ o *ℤ (n *ℤ a +ℤ (n -ℤ k) *ℤ (b -ℤ a))
@@ -16,16 +17,10 @@ turned_coordinate n k o z a b e = e ∙ ring (n ∷ k ∷ o ∷ a ∷ b ∷ []) 
 
 turned_between : (a b : GridPoint) (w : RationalPoint) → IsBetween b a w → IsBetween a b w
 turned_between a b w on =
-    let start = on.start in
-    let finish = on.finish in
     record {
-      k = on.n -ℤ on.k;
-      n = on.n;
-      start = omega (arith, ints);
-      finish = omega (arith, ints);
-      some = on.some;
-      across = turned_coordinate on.n on.k w.over w.x a.x b.x on.across;
-      up = turned_coordinate on.n on.k w.over w.y a.y b.y on.up;
+      at = turned on.at;
+      across = turned_coordinate on.at.n on.at.k w.over w.x a.x b.x on.across;
+      up = turned_coordinate on.at.n on.at.k w.over w.y a.y b.y on.up;
     }
 
 module _ (s t r : Seg) (e : r.a ≡ t.b) (f : r.b ≡ t.a) where

@@ -31,12 +31,16 @@ pub record RationalPoint : Type 0 where
 abbrev pub rational : GridPoint → RationalPoint
 rational p = record { x = p.x; y = p.y; over = pos 1; positive = record { le = tt } }
 
--- w is a + (k / n) (b - a) for some k from 0 to n: a point of the segment from a to b, its ends among them
-pub record IsBetween (a b : GridPoint) (w : RationalPoint) : Type 0 where
+-- the fraction k / n of a way, from 0, its start, to 1, its end
+pub record Fraction : Type 0 where
   pub k : ℤ
   pub n : ℤ
   pub start : pos 0 ≤ℤ k
   pub finish : k ≤ℤ n
   pub some : pos 1 ≤ℤ n
-  pub across : n *ℤ w.x ≡ w.over *ℤ (n *ℤ a.x +ℤ k *ℤ (b.x -ℤ a.x))
-  pub up : n *ℤ w.y ≡ w.over *ℤ (n *ℤ a.y +ℤ k *ℤ (b.y -ℤ a.y))
+
+-- w is a + (k / n) (b - a) for some fraction k / n: a point of the segment from a to b, its ends among them
+pub record IsBetween (a b : GridPoint) (w : RationalPoint) : Type 0 where
+  pub at : Fraction
+  pub across : at.n *ℤ w.x ≡ w.over *ℤ (at.n *ℤ a.x +ℤ at.k *ℤ (b.x -ℤ a.x))
+  pub up : at.n *ℤ w.y ≡ w.over *ℤ (at.n *ℤ a.y +ℤ at.k *ℤ (b.y -ℤ a.y))

@@ -74,7 +74,7 @@ module _ (cone : Cone) (p : GridPoint) (z : ℕ) (e : Seg) where
   unfolding IsEdgeClear
   end_clear clear T N X Y D start finish some ex ey ez near =
       let w : RationalPoint = record { x = N *ℤ e.a.x +ℤ T *ℤ (e.b.x -ℤ e.a.x); y = N *ℤ e.a.y +ℤ T *ℤ (e.b.y -ℤ e.a.y); over = N; positive = some } in
-      let on : IsBetween e.a e.b w = record { k = T; n = N; start = start; finish = finish; some = some; across = refl; up = refl } in
+      let on : IsBetween e.a e.b w = record { at = record { k = T; n = N; start = start; finish = finish; some = some }; across = refl; up = refl } in
       let below = near.below in
       let same : square (pos cone.sn) *ℤ (D *ℤ D) ≡ square (pos cone.sn) *ℤ ((N *ℤ pos z) *ℤ (N *ℤ pos z)) = ap₂ (λ x y. square (pos cone.sn) *ℤ (x *ℤ y)) ez ez in
       let close = near.close in

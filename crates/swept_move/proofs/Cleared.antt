@@ -39,11 +39,11 @@ KeepsOffEnd cone p z e =
 pub end_kept : (cone : Cone) (p : GridPoint) (z : ℕ) (e : Seg) → KeepsOffEnd cone p z e → IsEdgeClear cone p z e
 unfolding IsEdgeClear
 end_kept cone p z e off w on inside =
-    let some = on.some in
-    let near = near_there (pos cone.sd) (pos cone.sn) (pos 1) w.over on.n _ _ (pos z) _ _ (omega (arith, ints))
-    (way_at p.x e.a.x e.b.x w.x w.over on.k on.n on.across) (way_at p.y e.a.y e.b.y w.y w.over on.k on.n on.up) inside.deep inside.close in
+    let some = on.at.some in
+    let near = near_there (pos cone.sd) (pos cone.sn) (pos 1) w.over on.at.n _ _ (pos z) _ _ (omega (arith, ints))
+    (way_at p.x e.a.x e.b.x w.x w.over on.at.k on.at.n on.across) (way_at p.y e.a.y e.b.y w.y w.over on.at.k on.at.n on.up) inside.deep inside.close in
     let close = near.close in
-    let far = off on.k on.n on.start on.finish on.some in
+    let far = off on.at.k on.at.n on.at.start on.at.finish on.at.some in
     absurd (omega (arith, ints))
 
 -- ---- an end of the edge

@@ -62,14 +62,14 @@ near_there sd sn n m o X Y D x y some ex ey below close =
 module _ (cone : Cone) (mv : Move) (e : Seg) (s : Moment) (w : RationalPoint) (on : IsBetween e.a e.b w) where
   pub removed_is_near : IsRemoved cone mv s w
       → IsNear (square (pos cone.sd)) (square (pos cone.sn))
-      (away (mv.from.at.x -ℤ e.a.x) (mv.to.at.x -ℤ mv.from.at.x) (e.b.x -ℤ e.a.x) (s.k *ℤ on.n) (on.k *ℤ s.n) (s.n *ℤ on.n))
-      (away (mv.from.at.y -ℤ e.a.y) (mv.to.at.y -ℤ mv.from.at.y) (e.b.y -ℤ e.a.y) (s.k *ℤ on.n) (on.k *ℤ s.n) (s.n *ℤ on.n))
-      (deep (pos (depth_of mv.from.h)) (pos (depth_of mv.to.h) -ℤ pos (depth_of mv.from.h)) (s.k *ℤ on.n) (s.n *ℤ on.n))
+      (away (mv.from.at.x -ℤ e.a.x) (mv.to.at.x -ℤ mv.from.at.x) (e.b.x -ℤ e.a.x) (s.k *ℤ on.at.n) (on.at.k *ℤ s.n) (s.n *ℤ on.at.n))
+      (away (mv.from.at.y -ℤ e.a.y) (mv.to.at.y -ℤ mv.from.at.y) (e.b.y -ℤ e.a.y) (s.k *ℤ on.at.n) (on.at.k *ℤ s.n) (s.n *ℤ on.at.n))
+      (deep (pos (depth_of mv.from.h)) (pos (depth_of mv.to.h) -ℤ pos (depth_of mv.from.h)) (s.k *ℤ on.at.n) (s.n *ℤ on.at.n))
   removed_is_near removed =
-      let some = on.some in
-      near_deeper (square (pos cone.sd)) (square (pos cone.sn)) _ _ (on.n *ℤ depth_at mv s) _ (square_nonneg (pos cone.sn))
-      (deeper_between mv.from.h mv.to.h (pos (depth_of mv.from.h)) (pos (depth_of mv.to.h)) s.k s.n on.n (depth_least mv.from.h) (depth_least mv.to.h) s.start s.finish (omega (arith, ints)))
-      (near_there (pos cone.sd) (pos cone.sn) s.n w.over on.n _ _ (depth_at mv s) _ _ (omega (arith, ints))
-      (way_there mv.from.at.x mv.to.at.x e.a.x e.b.x w.x w.over s.k s.n on.k on.n on.across)
-      (way_there mv.from.at.y mv.to.at.y e.a.y e.b.y w.y w.over s.k s.n on.k on.n on.up)
+      let some = on.at.some in
+      near_deeper (square (pos cone.sd)) (square (pos cone.sn)) _ _ (on.at.n *ℤ depth_at mv s) _ (square_nonneg (pos cone.sn))
+      (deeper_between mv.from.h mv.to.h (pos (depth_of mv.from.h)) (pos (depth_of mv.to.h)) s.k s.n on.at.n (depth_least mv.from.h) (depth_least mv.to.h) s.start s.finish (omega (arith, ints)))
+      (near_there (pos cone.sd) (pos cone.sn) s.n w.over on.at.n _ _ (depth_at mv s) _ _ (omega (arith, ints))
+      (way_there mv.from.at.x mv.to.at.x e.a.x e.b.x w.x w.over s.k s.n on.at.k on.at.n on.across)
+      (way_there mv.from.at.y mv.to.at.y e.a.y e.b.y w.y w.over s.k s.n on.at.k on.at.n on.up)
       removed.deep removed.close)

@@ -177,9 +177,9 @@ removes_none cone mv e passes s w on removed =
     let a = e.a in
     let b = e.b in
     let L = p.dx *ℤ p.dx +ℤ p.dy *ℤ p.dy in
-    let hit : IsHit p (s.k *ℤ on.n) (on.k *ℤ s.n) (s.n *ℤ on.n) = removed_is_near cone mv e s w on removed in
-    let place = place_of s.k s.n on.k on.n s.start s.finish s.some on.start on.finish on.some in
-    let none = no_hit p (guarded_by_tests cone mv e passes) (square_nonneg (pos cone.sd)) (square_nonneg (pos cone.sn)) (s.k *ℤ on.n) (on.k *ℤ s.n) (s.n *ℤ on.n) place hit in
+    let hit : IsHit p (s.k *ℤ on.at.n) (on.at.k *ℤ s.n) (s.n *ℤ on.at.n) = removed_is_near cone mv e s w on removed in
+    let place = place_of s.k s.n on.at.k on.at.n s.start s.finish s.some on.at.start on.at.finish on.at.some in
+    let none = no_hit p (guarded_by_tests cone mv e passes) (square_nonneg (pos cone.sd)) (square_nonneg (pos cone.sn)) (s.k *ℤ on.at.n) (on.at.k *ℤ s.n) (s.n *ℤ on.at.n) place hit in
     let meet = λ (some : meeting_n f.x f.y g.x g.y a.x a.y b.x b.y ≡ pos 0 → ⊥).
     none (meeting_s f.x f.y g.x g.y a.x a.y b.x b.y) (meeting_t f.x f.y g.x g.y a.x a.y b.x b.y) (meeting_n f.x f.y g.x g.y a.x a.y b.x b.y)
     (meets_x p.ex p.ey p.qx p.qy p.dx p.dy) (meets_y p.ex p.ey p.qx p.qy p.dx p.dy) (λ _ _ n_none. some n_none)
