@@ -1,7 +1,7 @@
 -- What a straight move removes at the surface, and when code is safe: no moment removes a point outside the drawing.
 use Rattle.std.specs.Prelude.{ℤ, neg_ℤ, ◌+ℤ◌, ◌-ℤ◌, ◌*ℤ◌, List, All}
 use Rattle.plane_exact.specs.Cone.{Cone}
-use Rattle.plane_exact.specs.Plane.{Fraction, RationalPoint}
+use Rattle.plane_exact.specs.Plane.{Fraction, RationalPoint, IsBetween}
 use Rattle.plane_exact.specs.declared.moves.LineMove.{LineMove}
 use Rattle.plane_exact.specs.declared.moves.Move.{Move}
 use Rattle.plane_exact.specs.declared.point.Seg.{Seg}
@@ -32,6 +32,10 @@ depth_at mv s = neg_ℤ (between s mv.from.h mv.to.h)
 -- at the moment the tip is below the surface, and w is in the open disc that the bit cuts there
 abbrev pub IsRemoved : Cone → Move → Moment → RationalPoint → Type 0
 IsRemoved cone mv s w = IsInDisc cone (place_at mv s) (depth_at mv s) s.n w
+
+-- no moment removes a point of the edge
+abbrev pub RemovesNone : Cone → Move → Seg → Type 0
+RemovesNone cone mv e = (s : Moment) (w : RationalPoint) → IsBetween e.a e.b w → ¬ IsRemoved cone mv s w
 
 -- no moment removes a point that isn't inside
 abbrev pub IsSafe : List Seg → Cone → Move → Type 0

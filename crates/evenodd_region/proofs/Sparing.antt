@@ -14,9 +14,9 @@ use Rattle.plane_exact.specs.declared.point.Seg.{Seg}
 use Rattle.engrave_model.specs.Clear.{depth_of, IsDeep, IsClear, PassesEdge}
 use Rattle.engrave_model.specs.Drawing.{edges_of}
 use Rattle.engrave_model.specs.Inside.{IsInside}
-use Rattle.engrave_model.specs.Removal.{Moment, place_at, depth_at, IsRemoved, IsSafe}
+use Rattle.engrave_model.specs.Removal.{Moment, place_at, depth_at, IsRemoved, RemovesNone, IsSafe}
 use Rattle.evenodd_region.specs.Parity.{IsOnPath, IsPathFree}
-use Rattle.evenodd_region.specs.SafeMoves.{IsSpared, SparingMoveLaw, SurfaceMoveLaw}
+use Rattle.evenodd_region.specs.SafeMoves.{SparingMoveLaw, SurfaceMoveLaw}
 use Rattle.evenodd_region.proofs.Discs.{centre_closer, way_closer, slope_some}
 use Rattle.evenodd_region.proofs.Rounds.{parity}
 use Rattle.evenodd_region.proofs.Ways.{IsDeepPlace, way_deep, deep_end, not_below_surface}
@@ -26,12 +26,12 @@ record IsSometimeRemoved (cone : Cone) (mv : Move) (u : RationalPoint) : Type 0 
   removed : IsRemoved cone mv moment u
 
 module _ (cone : Cone) (mv : Move) where
-  -- a path of removed points meets no spared edge
-  path_free : (edges : List Seg) (v w : RationalPoint) → All (IsSpared cone mv) edges
+  -- a path of removed points meets no edge of which none is removed
+  path_free : (edges : List Seg) (v w : RationalPoint) → All (RemovesNone cone mv) edges
       → ((u : RationalPoint) → IsOnPath v w u → IsSometimeRemoved cone mv u) → IsPathFree edges v w
   path_free edges v w spared removed u on outline =
       let r = removed u on in
-      let spares : IsSpared cone mv outline.1 = subst (IsSpared cone mv) outline.3 (spared outline.0 outline.1 outline.2) in
+      let spares : RemovesNone cone mv outline.1 = subst (RemovesNone cone mv) outline.3 (spared outline.0 outline.1 outline.2) in
       spares r.moment u outline.4 r.removed
 
   -- below the surface the tip removes its own place
@@ -83,7 +83,7 @@ surface_is_safe edges cone mv shallow s w removed =
 
 -- A clear move is a safe move, where the tests that it passes against an edge mean that it spares the edge.
 pub clear_is_safe_by : (loops : List (List GridPoint)) (cone : Cone) (mv : Move)
-    → ((e : Seg) → PassesEdge cone mv e → IsSpared cone mv e)
+    → ((e : Seg) → PassesEdge cone mv e → RemovesNone cone mv e)
     → IsClear (edges_of loops) cone mv → IsSafe (edges_of loops) cone mv
 clear_is_safe_by loops cone mv spares (inl shallow) = surface_is_safe (edges_of loops) cone mv shallow
 clear_is_safe_by loops cone mv spares (inr clear) =

@@ -1,21 +1,17 @@
 -- Moves that spare the edges of a drawing are safe.
 use Rattle.std.specs.Prelude.{List, All}
 use Rattle.plane_exact.specs.Cone.{Cone}
-use Rattle.plane_exact.specs.Plane.{GridPoint, RationalPoint, IsBetween, rational}
+use Rattle.plane_exact.specs.Plane.{GridPoint, rational}
 use Rattle.plane_exact.specs.declared.moves.Move.{Move}
 use Rattle.plane_exact.specs.declared.point.Seg.{Seg}
 use Rattle.engrave_model.specs.Clear.{IsDeep, first_deep}
 use Rattle.engrave_model.specs.Drawing.{edges_of}
 use Rattle.engrave_model.specs.Inside.{IsInside}
-use Rattle.engrave_model.specs.Removal.{Moment, IsRemoved, IsSafe}
+use Rattle.engrave_model.specs.Removal.{RemovesNone, IsSafe}
 
--- no moment of the move removes a point of the edge
-abbrev pub IsSpared : Cone → Move → Seg → Type 0
-IsSpared cone mv e = (s : Moment) (w : RationalPoint) → IsBetween e.a e.b w → ¬ IsRemoved cone mv s w
-
--- For all closed loops: a move that spares each edge, and whose first end below the surface is inside, is safe.
+-- For all closed loops: a move that removes no point of any edge, and whose first end below the surface is inside, is safe.
 abbrev pub SparingMoveLaw : Type 0
-SparingMoveLaw = (loops : List (List GridPoint)) (cone : Cone) (mv : Move) → IsDeep mv → All (IsSpared cone mv) (edges_of loops)
+SparingMoveLaw = (loops : List (List GridPoint)) (cone : Cone) (mv : Move) → IsDeep mv → All (RemovesNone cone mv) (edges_of loops)
     → IsInside (edges_of loops) (rational (first_deep mv)) → IsSafe (edges_of loops) cone mv
 
 -- a move at or above the surface is safe
