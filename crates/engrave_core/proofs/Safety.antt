@@ -99,10 +99,10 @@ checked_safe files drawing units code bit text given =
 pub done_is_safe : (files : List ℕ → Option (List ℕ)) (request : Option Request) (text : List ℕ)
     → IsDueOfRequest files request Done text → IsSafeRun files request
 done_is_safe files None text due = tt
-done_is_safe files (Some (Probe drawing at bit rmax limit)) text due = tt
+done_is_safe files (Some (Probe shape at bit rmax limit)) text due = tt
 done_is_safe files (Some (Moves code units)) text due = tt
-done_is_safe files (Some (Check drawing code bit rmax)) text due =
-    checked_safe files drawing.file drawing.units code (cone_of bit rmax) text due
+done_is_safe files (Some (Check shape code bit rmax)) text due =
+    checked_safe files shape.drawing shape.units code (cone_of bit rmax) text due
 
 -- where the whole reply was written as Done, or the output failed
 pub written_is_safe : (files : List ℕ → Option (List ℕ)) (request : Option Request) (text : List ℕ) (outcome result : Outcome)

@@ -140,11 +140,11 @@ IsDueOfCheck files drawing units code bit outcome text =
     (held_drawing files drawing) outcome text
 
 abbrev pub IsDueOfCommand : (List ℕ → Option (List ℕ)) → Request → Outcome → List ℕ → Type 0
-IsDueOfCommand files (Probe drawing at bit rmax limit) outcome text =
-    IsGivenBy (IsProbed at (cone_of bit rmax) limit) (held_drawing files drawing.file) outcome text
+IsDueOfCommand files (Probe shape at bit rmax limit) outcome text =
+    IsGivenBy (IsProbed at (cone_of bit rmax) limit) (held_drawing files shape.drawing) outcome text
 IsDueOfCommand files (Moves code units) outcome text = IsGivenBy IsListed (held_code files units code) outcome text
-IsDueOfCommand files (Check drawing code bit rmax) outcome text =
-    IsDueOfCheck files drawing.file drawing.units code (cone_of bit rmax) outcome text
+IsDueOfCommand files (Check shape code bit rmax) outcome text =
+    IsDueOfCheck files shape.drawing shape.units code (cone_of bit rmax) outcome text
 
 abbrev pub IsDueOfRequest : (List ℕ → Option (List ℕ)) → Option Request → Outcome → List ℕ → Type 0
 IsDueOfRequest files None outcome text = Refuses Usage outcome text

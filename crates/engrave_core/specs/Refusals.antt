@@ -46,9 +46,9 @@ IsRefusalOfHeldCode outcome = IsRefusalOfFile Code outcome ⊎ IsRefusalOfCode o
 
 -- the refusals of words that are taken
 abbrev pub IsRefusalOfRequest : Request → Outcome → Type 0
-IsRefusalOfRequest (Probe drawing at bit rmax limit) outcome = IsRefusalOfHeldDrawing outcome
+IsRefusalOfRequest (Probe shape at bit rmax limit) outcome = IsRefusalOfHeldDrawing outcome
 IsRefusalOfRequest (Moves code units) outcome = IsRefusalOfHeldCode outcome
-IsRefusalOfRequest (Check drawing code bit rmax) outcome =
+IsRefusalOfRequest (Check shape code bit rmax) outcome =
     IsRefusalOfHeldDrawing outcome ⊎ (IsRefusalOfHeldCode outcome ⊎ IsRefusalOfMoves outcome)
 
 -- the refusals of words, by the request that they make, if they are taken

@@ -54,6 +54,6 @@ pub record HoldSafeCode (files : List ℕ → Option (List ℕ)) (drawing code :
 -- what Done says of a checked code
 abbrev pub IsSafeRun : (List ℕ → Option (List ℕ)) → Option Request → Type 0
 IsSafeRun files None = Unit {0}
-IsSafeRun files (Some (Probe drawing at bit rmax limit)) = Unit {0}
+IsSafeRun files (Some (Probe shape at bit rmax limit)) = Unit {0}
 IsSafeRun files (Some (Moves code units)) = Unit {0}
-IsSafeRun files (Some (Check drawing code bit rmax)) = HoldSafeCode files drawing.file code drawing.units (cone_of bit rmax)
+IsSafeRun files (Some (Check shape code bit rmax)) = HoldSafeCode files shape.drawing code shape.units (cone_of bit rmax)

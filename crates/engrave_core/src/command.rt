@@ -12,7 +12,7 @@ use crate::outcome::Outcome;
 use depth_rule::{Scene, greatest_depth};
 use gouge_checker::{Verdict, check as judge_code};
 use grid_num::Units;
-use job_words::{DrawingOptions, Request, WordsFault, read_words};
+use job_words::{DrawingWords, Request, WordsFault, read_words};
 use loops_text::Drawing;
 use plane_exact::{Bit, LineMove, Point};
 use shop_port::Depot;
@@ -44,14 +44,14 @@ fn run<D: Depot>(alloc: Global, request: &Request, depot: &mut D) -> Result<Stri
 {
     match request {
         Request::Probe {
-            drawing,
+            shape,
             at,
             bit,
             rmax,
             limit,
         } => probe(
             alloc,
-            drawing.file.as_str(),
+            shape.drawing.as_str(),
             *at,
             *bit,
             *rmax,
@@ -60,11 +60,11 @@ fn run<D: Depot>(alloc: Global, request: &Request, depot: &mut D) -> Result<Stri
         ),
         Request::Moves { code, units } => moves(alloc, code.as_str(), *units, depot),
         Request::Check {
-            drawing,
+            shape,
             code,
             bit,
             rmax,
-        } => check(alloc, drawing, code.as_str(), *bit, *rmax, depot),
+        } => check(alloc, shape, code.as_str(), *bit, *rmax, depot),
     }
 }
 
@@ -131,20 +131,20 @@ fn moves<D: Depot>(
 /// `check`: the verdict on a code, over a drawing.
 fn check<D: Depot>(
     alloc: Global,
-    options: &DrawingOptions,
+    shape: &DrawingWords,
     code: &str,
     bit: (u32, u32),
     rmax: u32,
     depot: &mut D,
 ) -> Result<String, Outcome>
     requires { IsCone bit.0 bit.1 rmax }
-    ensures told { IfSome (D.held depot.old) (λ files. IsTold (IsDueOfCheck files options.now.file options.now.units code.now (cone_of bit rmax)) result) }
+    ensures told { IfSome (D.held depot.old) (λ files. IsTold (IsDueOfCheck files shape.now.drawing shape.now.units code.now (cone_of bit rmax)) result) }
     ensures refusal { IfErr result (λ refusal. IsRefusalOfHeldDrawing refusal ⊎ (IsRefusalOfHeldCode refusal ⊎ IsRefusalOfMoves refusal)) }
     ensures caused { IfErr result (IsCaused (D.faults depot.old) (D.faults depot.new) (D.misses depot.old) (D.misses depot.new)) }
     ensures held { D.held depot.new ≡ D.held depot.old }
 {
-    let drawing = load_drawing(alloc, options.file.as_str(), depot)?;
-    match load_code(alloc, code, options.units, depot) {
+    let drawing = load_drawing(alloc, shape.drawing.as_str(), depot)?;
+    match load_code(alloc, code, shape.units, depot) {
         Ok(moves) => {
             let bit = Bit::new(bit.0, bit.1, rmax).unwrap();
             check_moves(alloc, drawing, &bit, &moves)

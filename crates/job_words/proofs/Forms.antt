@@ -9,11 +9,11 @@ use Rattle.grid_num.specs.declared.units.Units.{Units}
 use Rattle.plane_exact.specs.Plane.{GridPoint}
 use Rattle.job_words.specs.Commands.{options_of}
 use Rattle.job_words.specs.Plain.{GivenOption, IsGiven, IsTakenInForm, given_value, is_in_form}
-use Rattle.job_words.specs.Request.{check_by, check_request, drawing_options_by, drawing_options_of, moves_by, moves_request, probe_by, probe_request, values_request}
+use Rattle.job_words.specs.Request.{check_by, check_request, drawing_words_by, drawing_words_of, moves_by, moves_request, probe_by, probe_request, values_request}
 use Rattle.job_words.specs.Values.{bit_of, form_named, number_of, or_default, point_of, rmax_of, slope_of, units_named, units_of}
 use Rattle.job_words.specs.declared.commands.CommandWord.{CommandWord}
 use Rattle.job_words.specs.declared.commands.CommandWord.TheVariants.{Probe, Moves, Check}
-use Rattle.job_words.specs.declared.request.DrawingOptions.{DrawingOptions}
+use Rattle.job_words.specs.declared.request.DrawingWords.{DrawingWords}
 use Rattle.job_words.specs.declared.request.FormWord.{FormWord}
 use Rattle.job_words.proofs.Requests.{request_of-given}
 
@@ -25,14 +25,14 @@ none_is_not e = absurd (true≢false (sym e))
 
 -- ---- requests, by their parts
 
-drawing_options_some : (form : Option FormWord) (units : Option Units) (file : Option (List ℕ)) → Is form → Is units
-    → Is file → Is (drawing_options_by form units file)
-drawing_options_some (Some form) (Some units) (Some file) f u d = refl
-drawing_options_some None units file f u d = none_is_not f
-drawing_options_some (Some form) None file f u d = none_is_not u
-drawing_options_some (Some form) (Some units) None f u d = none_is_not d
+drawing_words_some : (form : Option FormWord) (units : Option Units) (file : Option (List ℕ)) → Is form → Is units
+    → Is file → Is (drawing_words_by form units file)
+drawing_words_some (Some form) (Some units) (Some file) f u d = refl
+drawing_words_some None units file f u d = none_is_not f
+drawing_words_some (Some form) None file f u d = none_is_not u
+drawing_words_some (Some form) (Some units) None f u d = none_is_not d
 
-probe_some : (at : Option GridPoint) (bit : Option (ℕ × ℕ)) (rmax limit : Option ℕ) (drawing : Option DrawingOptions)
+probe_some : (at : Option GridPoint) (bit : Option (ℕ × ℕ)) (rmax limit : Option ℕ) (drawing : Option DrawingWords)
     → Is at → Is bit → Is rmax → Is limit → Is drawing → Is (probe_by at bit rmax limit drawing)
 probe_some (Some at) (Some bit) (Some rmax) (Some limit) (Some drawing) a b r l s = refl
 probe_some None bit rmax limit drawing a b r l s = none_is_not a
@@ -46,7 +46,7 @@ moves_some (Some units) (Some code) u c = refl
 moves_some None code u c = none_is_not u
 moves_some (Some units) None u c = none_is_not c
 
-check_some : (bit : Option (ℕ × ℕ)) (rmax : Option ℕ) (drawing : Option DrawingOptions) (code : Option (List ℕ))
+check_some : (bit : Option (ℕ × ℕ)) (rmax : Option ℕ) (drawing : Option DrawingWords) (code : Option (List ℕ))
     → Is bit → Is rmax → Is drawing → Is code → Is (check_by bit rmax drawing code)
 check_some (Some bit) (Some rmax) (Some drawing) (Some code) b r s c = refl
 check_some None rmax drawing code b r s c = none_is_not b
@@ -97,10 +97,10 @@ module _ (given : List GivenOption) (in_form : list_all is_in_form given ≡ tru
   units_some : Is (units_of (value (codes "units")))
   units_some = default_some _ units_named (value (codes "units")) (fits given in_form (codes "units"))
 
-  drawing_some : Is (value (codes "drawing")) → Is (drawing_options_of value)
-  unfolding drawing_options_of
+  drawing_some : Is (value (codes "drawing")) → Is (drawing_words_of value)
+  unfolding drawing_words_of
   drawing_some there =
-      drawing_options_some _ _ _ (default_some _ form_named (value (codes "form")) (fits given in_form (codes "form"))) units_some there
+      drawing_words_some _ _ _ (default_some _ form_named (value (codes "form")) (fits given in_form (codes "form"))) units_some there
 
   pub request_some : (command : CommandWord) → IsGiven (options_of command) given → Is (values_request command value)
   unfolding options_of values_request probe_request moves_request check_request

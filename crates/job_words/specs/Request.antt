@@ -9,28 +9,28 @@ use Rattle.job_words.specs.Values.{at_of, bit_of, rmax_of, limit_of, form_of, un
 use Rattle.job_words.specs.declared.commands.CommandWord.{CommandWord}
 use Rattle.job_words.specs.declared.commands.CommandWord.TheVariants as command
 use Rattle.job_words.specs.declared.request.FormWord.{FormWord}
-use Rattle.job_words.specs.declared.request.DrawingOptions.{DrawingOptions}
+use Rattle.job_words.specs.declared.request.DrawingWords.{DrawingWords}
 use Rattle.job_words.specs.declared.request.Request.{Request}
 use Rattle.job_words.specs.declared.request.Request.TheVariants.{Probe, Moves, Check}
 
-abbrev pub drawing_options_by : Option FormWord → Option Units → Option (List ℕ) → Option DrawingOptions
-drawing_options_by (Some form) (Some units) (Some file) = Some (record { file = file; form = form; units = units })
-drawing_options_by _ _ _ = None
+abbrev pub drawing_words_by : Option FormWord → Option Units → Option (List ℕ) → Option DrawingWords
+drawing_words_by (Some form) (Some units) (Some drawing) = Some (record { drawing = drawing; form = form; units = units })
+drawing_words_by _ _ _ = None
 
 -- the values of the options that say which drawing a command is about
-unfoldable pub drawing_options_of : (List ℕ → Option (List ℕ)) → Option DrawingOptions
-drawing_options_of value = drawing_options_by (form_of (value (codes "form"))) (units_of (value (codes "units"))) (value (codes "drawing"))
+unfoldable pub drawing_words_of : (List ℕ → Option (List ℕ)) → Option DrawingWords
+drawing_words_of value = drawing_words_by (form_of (value (codes "form"))) (units_of (value (codes "units"))) (value (codes "drawing"))
 
-abbrev pub probe_by : Option GridPoint → Option (ℕ × ℕ) → Option ℕ → Option ℕ → Option DrawingOptions
+abbrev pub probe_by : Option GridPoint → Option (ℕ × ℕ) → Option ℕ → Option ℕ → Option DrawingWords
     → Option Request
-probe_by (Some at) (Some bit) (Some rmax) (Some limit) (Some drawing) = Some (Probe drawing at bit rmax limit)
+probe_by (Some at) (Some bit) (Some rmax) (Some limit) (Some shape) = Some (Probe shape at bit rmax limit)
 probe_by _ _ _ _ _ = None
 
 -- the values of `probe`
 unfoldable pub probe_request : (List ℕ → Option (List ℕ)) → Option Request
 probe_request value =
     probe_by (at_of (value (codes "at"))) (bit_of (value (codes "bit"))) (rmax_of (value (codes "rmax")))
-    (limit_of (value (codes "limit"))) (drawing_options_of value)
+    (limit_of (value (codes "limit"))) (drawing_words_of value)
 
 abbrev pub moves_by : Option Units → Option (List ℕ) → Option Request
 moves_by (Some units) (Some code) = Some (Moves code units)
@@ -40,15 +40,15 @@ moves_by _ _ = None
 unfoldable pub moves_request : (List ℕ → Option (List ℕ)) → Option Request
 moves_request value = moves_by (units_of (value (codes "units"))) (value (codes "code"))
 
-abbrev pub check_by : Option (ℕ × ℕ) → Option ℕ → Option DrawingOptions → Option (List ℕ)
+abbrev pub check_by : Option (ℕ × ℕ) → Option ℕ → Option DrawingWords → Option (List ℕ)
     → Option Request
-check_by (Some bit) (Some rmax) (Some drawing) (Some code) = Some (Check drawing code bit rmax)
+check_by (Some bit) (Some rmax) (Some shape) (Some code) = Some (Check shape code bit rmax)
 check_by _ _ _ _ = None
 
 -- the values of `check`
 unfoldable pub check_request : (List ℕ → Option (List ℕ)) → Option Request
 check_request value =
-    check_by (bit_of (value (codes "bit"))) (rmax_of (value (codes "rmax"))) (drawing_options_of value) (value (codes "code"))
+    check_by (bit_of (value (codes "bit"))) (rmax_of (value (codes "rmax"))) (drawing_words_of value) (value (codes "code"))
 
 -- the request of a command with these values, or None where one that it needs is missing or isn't in its form and range
 unfoldable pub values_request : CommandWord → (List ℕ → Option (List ℕ)) → Option Request
@@ -69,6 +69,6 @@ request_of (name ∷ options) =
 
 -- the numbers of a request are in their ranges
 abbrev pub IsInRange : Request → Type 0
-IsInRange (Probe drawing at bit rmax limit) = IsCone bit.0 bit.1 rmax × IsFromOneTo 32767 limit
+IsInRange (Probe shape at bit rmax limit) = IsCone bit.0 bit.1 rmax × IsFromOneTo 32767 limit
 IsInRange (Moves code units) = Unit {0}
-IsInRange (Check drawing code bit rmax) = IsCone bit.0 bit.1 rmax
+IsInRange (Check shape code bit rmax) = IsCone bit.0 bit.1 rmax

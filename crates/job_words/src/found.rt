@@ -3,9 +3,9 @@ ghost use Rattle.std.specs.Prelude.{◌≡◌, IfOk, IfSome, Some, None, Err, co
 ghost use Rattle.clap.specs.Words.{first_value, found_of};
 ghost use Rattle.plane_exact.specs.Cone.{IsFromOneTo};
 ghost use Rattle.job_words.specs.Values.{at_of, bit_of, rmax_of, limit_of, form_of, units_of};
-ghost use Rattle.job_words.specs.Request.{drawing_options_of};
+ghost use Rattle.job_words.specs.Request.{drawing_words_of};
 
-use crate::request::{DrawingOptions, FormWord};
+use crate::request::{DrawingWords, FormWord};
 use crate::text::Text;
 use crate::values::{read_form, read_number, read_point, read_slope, read_units};
 use crate::words::WordsFault;
@@ -75,14 +75,18 @@ pub fn text_in(alloc: Global, found: &ArgMatches, name: &str) -> Result<Text, Wo
 }
 
 /// The options that say which drawing a command is about.
-#[tactic(auto, unfolding(crate::specs::Request::drawing_options_of))]
-pub fn drawing_options_in(alloc: Global, found: &ArgMatches) -> Result<DrawingOptions, WordsFault>
-    ensures taken { IfOk result (λ options. drawing_options_of (first_value (found_of found.now)) ≡ Some options) }
+#[tactic(auto, unfolding(crate::specs::Request::drawing_words_of))]
+pub fn drawing_words_in(alloc: Global, found: &ArgMatches) -> Result<DrawingWords, WordsFault>
+    ensures taken { IfOk result (λ words. drawing_words_of (first_value (found_of found.now)) ≡ Some words) }
     ensures usage { result ≡ Err WordsFault.Usage
-        → drawing_options_of (first_value (found_of found.now)) ≡ None }
+        → drawing_words_of (first_value (found_of found.now)) ≡ None }
 {
     let form = form_in(found).ok_or(WordsFault::Usage)?;
     let units = units_in(found).ok_or(WordsFault::Usage)?;
-    let file = text_in(alloc, found, "drawing")?;
-    Ok(DrawingOptions { file, form, units })
+    let drawing = text_in(alloc, found, "drawing")?;
+    Ok(DrawingWords {
+        drawing,
+        form,
+        units,
+    })
 }

@@ -15,6 +15,6 @@ mod text;
 mod values;
 mod words;
 
-pub use request::{DrawingOptions, FormWord, Request};
+pub use request::{DrawingWords, FormWord, Request};
 pub use text::Text;
 pub use words::{WordsFault, read_words};

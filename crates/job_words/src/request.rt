@@ -11,11 +11,11 @@ pub enum FormWord {
     Loops,
 }
 
-/// The options that say which drawing a command is about.
+/// The words that say which drawing a command is about.
 #[derive(Debug, Drop)]
-pub struct DrawingOptions {
+pub struct DrawingWords {
     /// The name of the drawing's file; it may be empty.
-    pub file: Text,
+    pub drawing: Text,
     pub form: FormWord,
     pub units: Units,
 }
@@ -25,7 +25,7 @@ pub struct DrawingOptions {
 pub enum Request {
     /// The greatest depth at one point of a drawing.
     Probe {
-        drawing: DrawingOptions,
+        shape: DrawingWords,
         at: Point,
         /// The bit is `bit.0 / bit.1` wide, as a radius, for each unit of depth. Each number is from 1 to 2000.
         bit: (u32, u32),
@@ -42,7 +42,7 @@ pub enum Request {
     },
     /// Whether a code stays within a drawing.
     Check {
-        drawing: DrawingOptions,
+        shape: DrawingWords,
         /// The name of the code's file; it may be empty.
         code: Text,
         /// As in `Probe`.

@@ -1,6 +1,6 @@
 // Words and what they ask for, by the written forms.
 
-use crate::request::{DrawingOptions, Request};
+use crate::request::{DrawingWords, Request};
 use crate::words::{WordsFault, read_words};
 use std::alloc::{AllocError, Global};
 use std::test::Fail;
@@ -171,41 +171,41 @@ static MORE_WORDS: [(&str, &str); 26] = [
     ("", ""),
 ];
 
-fn text_of_drawing(alloc: Global, options: &DrawingOptions) -> Result<String, AllocError> {
-    let file = options.file.as_str();
-    let form = options.form;
-    let units = options.units;
-    format!(in alloc; "{file} {form:?} {units:?}")
+fn text_of_shape(alloc: Global, shape: &DrawingWords) -> Result<String, AllocError> {
+    let drawing = shape.drawing.as_str();
+    let form = shape.form;
+    let units = shape.units;
+    format!(in alloc; "{drawing} {form:?} {units:?}")
 }
 
 fn text_of_request(alloc: Global, request: &Request) -> Result<String, AllocError> {
     match request {
         Request::Probe {
-            drawing,
+            shape,
             at,
             bit,
             rmax,
             limit,
         } => {
-            let drawing = text_of_drawing(alloc, drawing)?;
+            let shape = text_of_shape(alloc, shape)?;
             let (x, y) = (at.x(), at.y());
             let (sn, sd) = *bit;
-            format!(in alloc; "probe {drawing} {x},{y} {sn}/{sd} {rmax} {limit}")
+            format!(in alloc; "probe {shape} {x},{y} {sn}/{sd} {rmax} {limit}")
         }
         Request::Moves { code, units } => {
             let code = code.as_str();
             format!(in alloc; "moves {code} {units:?}")
         }
         Request::Check {
-            drawing,
+            shape,
             code,
             bit,
             rmax,
         } => {
-            let drawing = text_of_drawing(alloc, drawing)?;
+            let shape = text_of_shape(alloc, shape)?;
             let code = code.as_str();
             let (sn, sd) = *bit;
-            format!(in alloc; "check {drawing} {code} {sn}/{sd} {rmax}")
+            format!(in alloc; "check {shape} {code} {sn}/{sd} {rmax}")
         }
     }
 }

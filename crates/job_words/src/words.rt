@@ -5,7 +5,7 @@ ghost use Rattle.job_words.specs.Request.{request_of, command_request, values_re
 ghost use Rattle.job_words.specs.Request.{probe_request, moves_request, check_request, IsInRange};
 
 use crate::commands::CommandWord;
-use crate::found::{at_in, bit_in, drawing_options_in, limit_in, rmax_in, text_in, units_in};
+use crate::found::{at_in, bit_in, drawing_words_in, limit_in, rmax_in, text_in, units_in};
 use crate::options::match_words;
 use crate::request::Request;
 use clap::ArgMatches;
@@ -91,9 +91,9 @@ fn read_probe(alloc: Global, found: &ArgMatches) -> Result<Request, WordsFault>
     let bit = bit_in(found).ok_or(WordsFault::Usage)?;
     let rmax = rmax_in(found).ok_or(WordsFault::Usage)?;
     let limit = limit_in(found).ok_or(WordsFault::Usage)?;
-    let drawing = drawing_options_in(alloc, found)?;
+    let shape = drawing_words_in(alloc, found)?;
     Ok(Request::Probe {
-        drawing,
+        shape,
         at,
         bit,
         rmax,
@@ -122,10 +122,10 @@ fn read_check(alloc: Global, found: &ArgMatches) -> Result<Request, WordsFault>
 {
     let bit = bit_in(found).ok_or(WordsFault::Usage)?;
     let rmax = rmax_in(found).ok_or(WordsFault::Usage)?;
-    let drawing = drawing_options_in(alloc, found)?;
+    let shape = drawing_words_in(alloc, found)?;
     let code = text_in(alloc, found, "code")?;
     Ok(Request::Check {
-        drawing,
+        shape,
         code,
         bit,
         rmax,
