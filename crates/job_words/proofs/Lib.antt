@@ -1,8 +1,12 @@
 -- The lemmas of the crate.
+pub mod Accepting
 pub mod Apps
+pub mod CheckLaw
 pub mod Forms
+pub mod Laws
+pub mod MovesLaw
+pub mod ProbeLaw
 pub mod Requests
 pub mod Rows
 pub mod Steps
-pub mod Taking
 pub mod Walks

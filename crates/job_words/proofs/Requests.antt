@@ -1,29 +1,30 @@
 -- The request of a command's name and words `--name=value` for its options.
-use Rattle.std.proofs.Common.{◌≡◌, ◌∙◌, cond, refl, ap, ap₂, List, ◌∷◌, map, Some, None}
+use Rattle.std.proofs.Common.{◌≡◌, ◌∙◌, ℕ, cond, true, ap, ap₂, List, ◌∷◌, map, Some, None, is_some}
+use Rattle.std.specs.List.{list_all}
 use Rattle.std.specs.Prelude.{option_and_then}
-use Rattle.job_words.specs.Commands.{command_named, name_of, options_of}
-use Rattle.job_words.specs.Plain.{GivenOption, IsGiven, IsNamed, IsRequestOfGiven, plain_word}
-use Rattle.job_words.specs.Request.{command_request, request_of, values_request}
-use Rattle.job_words.specs.declared.commands.CommandWord.{CommandWord}
-use Rattle.job_words.specs.declared.commands.CommandWord.TheVariants.{Probe, Moves, Check}
-use Rattle.job_words.proofs.Walks.{takes_plain_words}
+use Rattle.job_words.specs.Command.{Command}
+use Rattle.job_words.specs.Commands.{commands, named_among}
+use Rattle.job_words.specs.Plain.{GivenOption, IsAcceptedInForm, IsGiven, IsNamed, IsRequestOfGiven, given_value, is_in_form, plain_word}
+use Rattle.job_words.specs.Request.{command_request, request_of}
+use Rattle.job_words.proofs.Walks.{accepts_plain_words}
 
-named_back : (command : CommandWord) → command_named (name_of command) ≡ Some command
-named_back Probe = refl
-named_back Moves = refl
-named_back Check = refl
+-- what has to be shown of each command
+pub record IsLawful (command : Command) : Type 0 where
+  pub named : named_among commands command.name ≡ Some command
+  pub plain : IsNamed command.options
+  pub in_form : (given : List GivenOption) → list_all is_in_form given ≡ true → IsGiven command.options given
+      → is_some (command.request (given_value given)) ≡ true
 
-names_are_plain : (command : CommandWord) → IsNamed (options_of command)
-unfolding options_of
-names_are_plain Probe = refl
-names_are_plain Moves = refl
-names_are_plain Check = refl
-
-pub request_of-given : (command : CommandWord) (given : List GivenOption) → IsGiven (options_of command) given
+pub request_of-given : (command : Command) → IsLawful command → (given : List GivenOption) → IsGiven command.options given
     → IsRequestOfGiven command given
 unfolding request_of command_request
-request_of-given command given are =
-    let words = name_of command ∷ map plain_word given in
-    let taken = takes_plain_words (options_of command) (names_are_plain command) given are (name_of command) in
-    ap (option_and_then (λ named. command_request named words)) (named_back command)
-    ∙ ap₂ (λ b value. cond b (values_request command value) None) taken.taken (λ i name. taken.values name i)
+request_of-given command law given are =
+    let words = command.name ∷ map plain_word given in
+    let plain = accepts_plain_words command.options law.plain given are command.name in
+    ap (option_and_then (λ named. command_request named words)) law.named
+    ∙ ap₂ (λ b value. cond b (command.request value) None) plain.accepted (λ i name. plain.values name i)
+
+pub accepted_in_form : (command : Command) → IsLawful command → (given : List GivenOption) → IsGiven command.options given
+    → IsAcceptedInForm command given
+accepted_in_form command law given are in_form =
+    ap is_some (request_of-given command law given are) ∙ law.in_form given in_form are

@@ -1,4 +1,4 @@
--- A list of words `--name=value` at a command of options: taken, with the values that they give.
+-- A list of words `--name=value` at a command of options: accepted, with the values that they give.
 use Rattle.std.proofs.Common.{◌≡◌, ◌∙◌, Bool, cond, true, false, not, ◌&&◌, ◌||◌, refl, sym, ap, ap₂, List, [], ◌∷◌, ◌++◌, map, append-nil, append_assoc}
 use Rattle.std.specs.List.{fold, list_all, list_any}
 use Rattle.std.specs.Str.{bytes_eq}
@@ -10,8 +10,8 @@ use Rattle.clap.specs.Walk.{Row, Rule, Text, Walk, finished, first_of, has_row, 
 use Rattle.clap.proofs.FaultLemmas.{leaf_fault}
 use Rattle.clap.proofs.SimpleLemmas.{is_false}
 use Rattle.clap.proofs.WalkLemmas.{both}
-use Rattle.job_words.specs.Options.{OptionRow, is_taken, options_app, value_in}
-use Rattle.job_words.specs.Plain.{GivenOption, IsGiven, IsNamed, TakesPlainWords, given_value, is_known, is_met, is_once, plain_word}
+use Rattle.job_words.specs.Options.{OptionRow, is_accepted, options_app, value_in}
+use Rattle.job_words.specs.Plain.{GivenOption, IsGiven, IsNamed, AcceptsPlainWords, given_value, is_known, has_needed, is_once, plain_word}
 use Rattle.job_words.proofs.Apps.{built-options, built_app, built_rule, built_shape}
 use Rattle.job_words.proofs.Rows.{first_of-given, fresh_after, fresh_at_first, given_row, is_fresh, is_given-given}
 use Rattle.job_words.proofs.Steps.{held_with, named, turn-plain, walk_with, walked-plain}
@@ -78,11 +78,11 @@ met : (required there : Bool) → (not required || there) ≡ true → (required
 met true there is = ap not is
 met false there is = refl
 
-none_missing : (options : List OptionRow) (given : List GivenOption) → list_all (is_met given) options ≡ true
+none_missing : (options : List OptionRow) (given : List GivenOption) → list_all (has_needed given) options ≡ true
     → list_any (λ (rule : Rule). rule.required && not (is_given rule.id (map given_row given))) (map built_rule options) ≡ false
 none_missing [] given needed = refl
 none_missing (option ∷ options) given needed =
-    let parts = both (is_met given option) _ needed in
+    let parts = both (has_needed given option) _ needed in
     ap₂ (λ a b. a || b)
     (ap (λ there. option.required && not there) (is_given-given given option.name) ∙ met option.required _ parts.0)
     (none_missing options given parts.1)
@@ -125,6 +125,6 @@ module _ (options : List OptionRow) (plain : IsNamed options) (given : List Give
       ∙ ap (λ w. first_of name (finished (map built_rule options) w.held)) walk_is
       ∙ ap (first_of name) (finished-options options rows) ∙ first_of-given given name
 
-  pub takes_plain_words : (command : Text) → TakesPlainWords options given command
-  unfolding is_taken
-  takes_plain_words command = record { taken = ap is_empty (fault_of-plain command); values = value_in-plain command }
+  pub accepts_plain_words : (command : Text) → AcceptsPlainWords options given command
+  unfolding is_accepted
+  accepts_plain_words command = record { accepted = ap is_empty (fault_of-plain command); values = value_in-plain command }

@@ -1,19 +1,19 @@
--- Words of the form `--name=value`, and the law that they are taken.
+-- Words of the form `--name=value`, and the law that they are accepted.
 use Rattle.std.specs.Prelude.{◌≡◌, ℕ, Bool, true, not, ◌&&◌, ◌||◌, if◌then◌else◌, Option, Some, None, List, [], ◌∷◌, ◌++◌, map, is_some, codes}
 use Rattle.std.specs.List.{list_all, list_any}
 use Rattle.std.specs.Str.{bytes_eq}
 use Rattle.clap.specs.Lexer.{has_byte}
-use Rattle.job_words.specs.Commands.{name_of}
-use Rattle.job_words.specs.Options.{OptionRow, is_taken, value_in}
-use Rattle.job_words.specs.Request.{request_of, values_request}
+use Rattle.job_words.specs.Command.{Command}
+use Rattle.job_words.specs.Options.{OptionRow, is_accepted, value_in}
+use Rattle.job_words.specs.Request.{request_of}
 use Rattle.job_words.specs.Values.{point_of, slope_of, number_of, form_named, units_named}
-use Rattle.job_words.specs.declared.commands.CommandWord.{CommandWord}
 
 -- an option with a value, which may be any text
 pub record GivenOption : Type 0 where
   pub name : List ℕ
   pub value : List ℕ
 
+-- --NAME=VALUE
 abbrev pub plain_word : GivenOption → List ℕ
 plain_word given = codes "--" ++ (given.name ++ (codes "=" ++ given.value))
 
@@ -32,29 +32,29 @@ is_once [] = true
 is_once (given ∷ others) = list_all (λ other. not (bytes_eq given.name other.name)) others && is_once others
 
 -- a value is given for the option, if it is required
-abbrev pub is_met : List GivenOption → OptionRow → Bool
-is_met given option = not option.required || is_some (given_value given option.name)
+abbrev pub has_needed : List GivenOption → OptionRow → Bool
+has_needed given option = not option.required || is_some (given_value given option.name)
 
 -- names of the options, each at most once, and all that are required
 pub record IsGiven (options : List OptionRow) (given : List GivenOption) : Type 0 where
   pub known : list_all (is_known options) given ≡ true
   pub once : is_once given ≡ true
-  pub needed : list_all (is_met given) options ≡ true
+  pub needed : list_all (has_needed given) options ≡ true
 
 -- the names of options have no '=' (61)
 abbrev pub IsNamed : List OptionRow → Type 0
 IsNamed options = list_all (λ option. not (has_byte 61 option.name)) options ≡ true
 
 -- for any options: words `--name=value` with names of the options, each at most once, and all that
--- are required, are taken, in any order and with any values, and have the values that they give
-pub record TakesPlainWords (options : List OptionRow) (given : List GivenOption) (command : List ℕ) : Type 0 where
-  pub taken : is_taken options (command ∷ map plain_word given) ≡ true
+-- are required, are accepted, in any order and with any values, and have the values that they give
+pub record AcceptsPlainWords (options : List OptionRow) (given : List GivenOption) (command : List ℕ) : Type 0 where
+  pub accepted : is_accepted options (command ∷ map plain_word given) ≡ true
   pub values : (name : List ℕ) → value_in options (command ∷ map plain_word given) name ≡ given_value given name
 
 -- a command's name, followed by such words, is the request with the values that they give
-abbrev pub IsRequestOfGiven : CommandWord → List GivenOption → Type 0
+abbrev pub IsRequestOfGiven : Command → List GivenOption → Type 0
 IsRequestOfGiven command given =
-    request_of (name_of command ∷ map plain_word given) ≡ values_request command (given_value given)
+    request_of (command.name ∷ map plain_word given) ≡ command.request (given_value given)
 
 -- the value is in the form and range of the option of this name; a file may have any name
 abbrev pub is_in_form : GivenOption → Bool
@@ -68,6 +68,6 @@ is_in_form given =
     else true
 
 -- and where each value is in its form and range, there is such a request
-abbrev pub IsTakenInForm : CommandWord → List GivenOption → Type 0
-IsTakenInForm command given =
-    list_all is_in_form given ≡ true → is_some (request_of (name_of command ∷ map plain_word given)) ≡ true
+abbrev pub IsAcceptedInForm : Command → List GivenOption → Type 0
+IsAcceptedInForm command given =
+    list_all is_in_form given ≡ true → is_some (request_of (command.name ∷ map plain_word given)) ≡ true

@@ -8,6 +8,7 @@ use Rattle.plane_exact.specs.Plane.{GridPoint, is_coordinate}
 use Rattle.job_words.specs.declared.request.FormWord.{FormWord}
 use Rattle.job_words.specs.declared.request.FormWord.TheVariants.{Loops}
 
+-- a point of the grid, where both are coordinates
 abbrev pub on_grid : ℤ × ℤ → Option GridPoint
 on_grid (x, y) = if is_coordinate x && is_coordinate y then Some (record { x = x; y = y }) else None
 
@@ -19,9 +20,11 @@ point_of text = option_and_then on_grid (pair_of 44 text)
 abbrev pub from_one_to : ℕ → ℤ → Option ℕ
 from_one_to most z = if int_le (pos 1) z && int_le z (pos most) then Some (nat_abs z) else None
 
+-- a whole number from 1 to the most
 abbrev pub number_of : ℕ → List ℕ → Option ℕ
 number_of most text = option_and_then (from_one_to most) (whole_of text)
 
+-- two numbers from 1 to 2000
 abbrev pub both_to_2000 : ℤ × ℤ → Option (ℕ × ℕ)
 both_to_2000 (sn, sd) = both (from_one_to 2000 sn) (from_one_to 2000 sd)
 
@@ -45,24 +48,31 @@ units_named text =
 
 -- ---- each option: its value, or its default where it isn't given
 
+-- what is read of the value, or the default where it isn't given
 abbrev pub or_default : {A : Type 0} → A → (List ℕ → Option A) → Option (List ℕ) → Option A
 or_default default read None = Some default
 or_default default read (Some text) = read text
 
+-- `--at`
 abbrev pub at_of : Option (List ℕ) → Option GridPoint
 at_of = option_and_then point_of
 
+-- `--bit`
 abbrev pub bit_of : Option (List ℕ) → Option (ℕ × ℕ)
 bit_of = option_and_then slope_of
 
+-- `--rmax`, from 1 to 8191
 abbrev pub rmax_of : Option (List ℕ) → Option ℕ
 rmax_of = option_and_then (number_of 8191)
 
+-- `--limit`, from 1 to 32,767, and that where it isn't given
 abbrev pub limit_of : Option (List ℕ) → Option ℕ
 limit_of = or_default 32767 (number_of 32767)
 
+-- `--form`, loops where it isn't given
 abbrev pub form_of : Option (List ℕ) → Option FormWord
 form_of = or_default Loops form_named
 
+-- `--units`, 100 grid units a millimetre where they aren't given
 abbrev pub units_of : Option (List ℕ) → Option Units
 units_of = or_default Mm100 units_named

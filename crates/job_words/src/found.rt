@@ -1,18 +1,59 @@
-// The values that were found for the options, each None where it isn't in its form and range.
+// The options that commands have, and the values that were found for them, None where one isn't in its form and range.
 ghost use Rattle.std.specs.Prelude.{◌≡◌, IfOk, IfSome, Some, None, Err, codes};
 ghost use Rattle.clap.specs.Words.{first_value, found_of};
 ghost use Rattle.plane_exact.specs.Cone.{IsFromOneTo};
 ghost use Rattle.job_words.specs.Values.{at_of, bit_of, rmax_of, limit_of, form_of, units_of};
-ghost use Rattle.job_words.specs.Request.{drawing_words_of};
+ghost use Rattle.job_words.specs.Shape.{shape_of};
 
+use crate::fault::WordsFault;
+use crate::options::CommandOption;
 use crate::request::{DrawingWords, FormWord};
 use crate::text::Text;
 use crate::values::{read_form, read_number, read_point, read_slope, read_units};
-use crate::words::WordsFault;
 use clap::ArgMatches;
 use grid_num::Units;
 use plane_exact::Point;
 use std::alloc::Global;
+
+pub const AT: CommandOption = CommandOption {
+    name: "at",
+    required: true,
+};
+
+pub const BIT: CommandOption = CommandOption {
+    name: "bit",
+    required: true,
+};
+
+pub const RMAX: CommandOption = CommandOption {
+    name: "rmax",
+    required: true,
+};
+
+pub const LIMIT: CommandOption = CommandOption {
+    name: "limit",
+    required: false,
+};
+
+pub const DRAWING: CommandOption = CommandOption {
+    name: "drawing",
+    required: true,
+};
+
+pub const FORM: CommandOption = CommandOption {
+    name: "form",
+    required: false,
+};
+
+pub const UNITS: CommandOption = CommandOption {
+    name: "units",
+    required: false,
+};
+
+pub const CODE: CommandOption = CommandOption {
+    name: "code",
+    required: true,
+};
 
 pub fn at_in(found: &ArgMatches) -> Option<Point>
     ensures { result ≡ at_of (first_value (found_of found.now) (codes "at")) }
@@ -67,7 +108,7 @@ pub fn units_in(found: &ArgMatches) -> Option<Units>
 
 /// A copy of the value of the option of this name.
 pub fn text_in(alloc: Global, found: &ArgMatches, name: &str) -> Result<Text, WordsFault>
-    ensures taken { IfOk result (λ text. first_value (found_of found.now) name.now ≡ Some text) }
+    ensures accepted { IfOk result (λ text. first_value (found_of found.now) name.now ≡ Some text) }
     ensures usage { result ≡ Err WordsFault.Usage → first_value (found_of found.now) name.now ≡ None }
 {
     let text = found.get_str(name).ok_or(WordsFault::Usage)?;
@@ -75,11 +116,11 @@ pub fn text_in(alloc: Global, found: &ArgMatches, name: &str) -> Result<Text, Wo
 }
 
 /// The options that say which drawing a command is about.
-#[tactic(auto, unfolding(crate::specs::Request::drawing_words_of))]
-pub fn drawing_words_in(alloc: Global, found: &ArgMatches) -> Result<DrawingWords, WordsFault>
-    ensures taken { IfOk result (λ words. drawing_words_of (first_value (found_of found.now)) ≡ Some words) }
+#[tactic(auto, unfolding(crate::specs::Shape::shape_of))]
+pub fn shape_in(alloc: Global, found: &ArgMatches) -> Result<DrawingWords, WordsFault>
+    ensures accepted { IfOk result (λ words. shape_of (first_value (found_of found.now)) ≡ Some words) }
     ensures usage { result ≡ Err WordsFault.Usage
-        → drawing_words_of (first_value (found_of found.now)) ≡ None }
+        → shape_of (first_value (found_of found.now)) ≡ None }
 {
     let form = form_in(found).ok_or(WordsFault::Usage)?;
     let units = units_in(found).ok_or(WordsFault::Usage)?;

@@ -5,6 +5,7 @@
 #![tactic(auto)]
 
 mod commands;
+mod fault;
 mod found;
 pub mod law;
 mod options;
@@ -15,6 +16,7 @@ mod text;
 mod values;
 mod words;
 
+pub use fault::WordsFault;
 pub use request::{DrawingWords, FormWord, Request};
 pub use text::Text;
-pub use words::{WordsFault, read_words};
+pub use words::read_words;

@@ -1,9 +1,9 @@
 // Options of the form `--name=value` or `--name value`, read by `clap`.
 ghost use Rattle.std.specs.Prelude.{◌≡◌, ◌≢◌, ℕ, List, IfOk, map, string_bytes, true, false, Err};
 ghost use Rattle.clap.specs.Words.{app_of, first_value, found_of, kind_of, rule_of};
-ghost use Rattle.job_words.specs.Options.{row_of, option_rule, options_app, is_taken, value_in};
+ghost use Rattle.job_words.specs.Options.{row_of, option_rule, options_app, is_accepted, value_in};
 
-use crate::words::WordsFault;
+use crate::fault::WordsFault;
 use clap::error::ErrorKind;
 use clap::{Arg, ArgAction, ArgMatches, Command, Error};
 use std::alloc::{AllocError, Global};
@@ -22,22 +22,22 @@ pub fn match_words<'a>(
     options: &[CommandOption],
     words: &'a [String],
 ) -> Result<ArgMatches<'a>, WordsFault>
-    ensures taken { IfOk result (λ m.
-        is_taken (map row_of options.now) (map string_bytes words.entry.now) ≡ true) }
+    ensures accepted { IfOk result (λ m.
+        is_accepted (map row_of options.now) (map string_bytes words.entry.now) ≡ true) }
     ensures values { IfOk result (λ m. (name : List ℕ) → first_value (found_of m) name
         ≡ value_in (map row_of options.now) (map string_bytes words.entry.now) name) }
     ensures usage { result ≡ Err WordsFault.Usage
-        → is_taken (map row_of options.now) (map string_bytes words.entry.now) ≡ false }
+        → is_accepted (map row_of options.now) (map string_bytes words.entry.now) ≡ false }
 {
     let command = command_with(alloc, options)?;
     match command.try_get_matches_from(words) {
         Ok(matches) => Ok(matches),
-        Err(error) => Err(fault_told_by(&error)),
+        Err(error) => Err(words_fault(&error)),
     }
 }
 
-/// Memory ran out, or else the words aren't taken.
-fn fault_told_by(error: &Error) -> WordsFault
+/// Memory ran out, or else the words aren't accepted.
+fn words_fault(error: &Error) -> WordsFault
     ensures { result ≡ WordsFault.Usage → kind_of error.now ≢ ErrorKind.OutOfMemory }
 {
     if error.kind() == ErrorKind::OutOfMemory {

@@ -34,16 +34,16 @@ pub enum Request {
         /// The greatest depth that is asked for, in grid units, from 1 to 32,767.
         limit: u32,
     },
-    /// The moves of a code.
+    /// The moves of a G-code program.
     Moves {
-        /// The name of the code's file; it may be empty.
+        /// The name of the G-code program's file; it may be empty.
         code: Text,
         units: Units,
     },
-    /// Whether a code stays within a drawing.
+    /// Whether a G-code program stays within a drawing.
     Check {
         shape: DrawingWords,
-        /// The name of the code's file; it may be empty.
+        /// The name of the G-code program's file; it may be empty.
         code: Text,
         /// As in `Probe`.
         bit: (u32, u32),

@@ -1,4 +1,4 @@
-// A text that a request keeps, as the name of a file.
+// A text that a request has, as the name of a file.
 ghost use Rattle.std.specs.Prelude.{◌≡◌, string_bytes};
 
 use std::marker::Model;
@@ -6,7 +6,7 @@ use std::marker::Model;
 /// A text of its own, which contracts see as the list of its bytes.
 #[derive(Debug, Drop)]
 pub struct Text {
-    held: String,
+    text: String,
 }
 
 impl Model for Text {
@@ -14,28 +14,28 @@ impl Model for Text {
 
     ghost Value = { List ℕ };
 
-    ghost view = { λ t. string_bytes t.held };
+    ghost view = { λ t. string_bytes t.text };
 }
 
 impl Text {
-    /// Keeps the text.
+    /// Makes it of a string.
     pub fn new(text: String) -> Text
         ensures { result ≡ string_bytes text }
     {
-        Text { held: text }
+        Text { text }
     }
 
     /// Lends the text.
     pub fn as_str(&self) -> &str
         ensures { result.now ≡ self.now }
     {
-        self.held.as_str()
+        self.text.as_str()
     }
 
     /// Gives the text back.
     pub fn into_string(self) -> String
         ensures { string_bytes result ≡ self }
     {
-        self.held
+        self.text
     }
 }

@@ -3,7 +3,7 @@ use Rattle.std.proofs.Common.{◌∙◌, ◌<◌, ap, arith, false, length, []}
 use Rattle.clap.specs.Simple.{app_of_fields}
 use Rattle.job_words.specs.declared.options.CommandOption.{CommandOption}
 use Rattle.job_words.proofs.Apps.{options_app-none, without_help, without_version}
-use Rattle.job_words.proofs.Taking.{one_more}
+use Rattle.job_words.proofs.Accepting.{one_more}
 use Rattle.job_words.proofs.options.command_with.Goals as goal
 
 pub loop-option-init : goal.loop-option-init

@@ -11,15 +11,15 @@ use Rattle.clap.specs.declared.error.Error.{Error}
 use Rattle.clap.specs.declared.error.kind.ErrorKind.TheVariants.{OutOfMemory}
 use Rattle.clap.specs.declared.parser.matches.ArgMatches.{ArgMatches}
 use Rattle.clap.proofs.WalkLemmas.{first_value-rows}
-use Rattle.job_words.specs.Options.{OptionRow, is_taken, option_rule, options_app, row_of, value_in}
+use Rattle.job_words.specs.Options.{OptionRow, is_accepted, option_rule, options_app, row_of, value_in}
 use Rattle.job_words.specs.declared.options.CommandOption.{CommandOption}
 use Rattle.job_words.proofs.Apps.{options_app-free, options_app-more, options_app-simple}
 
 module _ (app : App) (options : List OptionRow) (words : List Text) (is : app ≡ options_app options) where
-  -- where `clap` finds no fault, the words are taken
-  pub taken_by : (is_simple_and_free app ≡ true → fault_of app words ≡ []) → is_taken options words ≡ true
-  unfolding is_taken
-  taken_by none =
+  -- where `clap` finds no fault, the words are accepted
+  pub accepted_by : (is_simple_and_free app ≡ true → fault_of app words ≡ []) → is_accepted options words ≡ true
+  unfolding is_accepted
+  accepted_by none =
       ap (λ a. is_empty (fault_of a words)) (sym is) ∙ ap is_empty (none (ap is_simple_and_free is ∙ options_app-free options))
 
   -- the values are those that `clap` found
@@ -34,10 +34,10 @@ module _ (app : App) (options : List OptionRow) (words : List Text) (is : app �
   some_kind [] error other has = absurd (⊎_elim (λ memory. other memory) (λ none. none) has)
   some_kind (kind ∷ kinds) error other has = ne_eqb _ _ (λ e. omega arith)
 
-  -- an error that isn't want of memory refuses the words
+  -- an error that isn't running out of memory refuses the words
   pub refused_by : (error : Error) → kind_of error ≢ OutOfMemory → (is_simple_and_free app ≡ true
-      → HasKind (fault_of app words) error) → is_taken options words ≡ false
-  unfolding is_taken
+      → HasKind (fault_of app words) error) → is_accepted options words ≡ false
+  unfolding is_accepted
   refused_by error other has =
       ap (λ a. is_empty (fault_of a words)) (sym is)
       ∙ some_kind (fault_of app words) error other (has (ap is_simple_and_free is ∙ options_app-free options))
