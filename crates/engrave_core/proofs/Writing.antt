@@ -6,32 +6,14 @@ use Rattle.shop_port.specs.Output.{Appended, AppendedPart}
 use Rattle.engrave_core.specs.Due.{IsDue}
 use Rattle.engrave_core.specs.Line.{line_of}
 use Rattle.engrave_core.specs.Outcome.{IfAbsent, IfAnswered, IfRefused, HasText}
-use Rattle.engrave_core.specs.Top.{IsCaused, WritesDue, WritesPart, WritesPartOfReadFault}
+use Rattle.engrave_core.specs.Stored.{IsCaused}
+use Rattle.engrave_core.specs.Top.{WritesDue, WritesPart, WritesPartOfReadFault}
 use Rattle.engrave_core.specs.declared.outcome.Outcome.{Outcome}
 use Rattle.engrave_core.specs.declared.outcome.Outcome.TheVariants.{Done, NotClear, Usage, Input, Absent, ReadFault, WriteFault, Memory}
 
 pub IfSome-map : {A : Type 0} (o : Option A) {P Q : A → Type 0} → ((x : A) → P x → Q x) → IfSome o P → IfSome o Q
 IfSome-map None f h = h
 IfSome-map (Some x) f h = f x h
-
-Rose-earlier : (a b c : ℕ) → a ≤ b → Rose b c → Rose a c
-Rose-earlier a b c below (inl more) = inl (omega arith)
-Rose-earlier a b c below (inr last) = inr last
-
--- a cause since a later moment is one since an earlier moment
-pub caused_since : (a b m n a' m' : ℕ) (outcome : Outcome) → a ≤ a' → m ≤ m' → IsCaused a' b m' n outcome → IsCaused a b m n outcome
-caused_since a b m n a' m' outcome faults misses caused =
-    record { read_fault = λ is. Rose-earlier a a' b faults (caused.read_fault is); absent = absent outcome caused.absent }
-  where
-    absent : (o : Outcome) → IfAbsent o (Rose m' n) → IfAbsent o (Rose m n)
-    absent Done h = h
-    absent (NotClear verdict) h = h
-    absent Usage h = h
-    absent (Input fault) h = h
-    absent (Absent which) h = Rose-earlier m m' n misses h
-    absent ReadFault h = h
-    absent WriteFault h = h
-    absent Memory h = h
 
 -- a write changes no cause of a file's fault
 pub caused_after : (a b m n : ℕ) (outcome result : Outcome) → (result ≡ outcome) ⊎ (result ≡ WriteFault)

@@ -1,6 +1,9 @@
 -- The definitions of the crate.
+pub mod Commands
 pub mod Due
+pub mod Given
 pub mod Line
 pub mod Outcome
 pub mod Refusals
+pub mod Stored
 pub mod Top

@@ -1,4 +1,4 @@
--- The line that tells a refusal.
+-- The line that reports a refusal.
 use Rattle.std.specs.Prelude.{ℕ, List, [], ◌++◌, codes, decimal}
 use Rattle.engrave_core.specs.declared.outcome.InputFault.{InputFault}
 use Rattle.engrave_core.specs.declared.outcome.InputFault.TheVariants.{TooLong, Loops, Code}
@@ -13,18 +13,20 @@ use Rattle.gouge_checker.specs.declared.verdict.Verdict.TheVariants as verdict
 use Rattle.loops_text.specs.Faults.{loops_tail}
 use Rattle.loops_text.specs.declared.fault.LoopsFault.{LoopsFault}
 
+-- what is wrong with a file, and the option that names it
 abbrev pub which_line : List ℕ → Which → List ℕ
 which_line refusal which.Drawing = refusal ++ codes " drawing\n"
 which_line refusal which.Code = refusal ++ codes " code\n"
 
--- the line of a fault of the drawing
+-- input loops AT WORDS
 abbrev pub loops_line : LoopsFault → List ℕ
 loops_line fault = codes "input loops " ++ loops_tail fault ++ codes "\n"
 
--- the line of a fault of the G-code program
+-- input code line LINE WORDS
 abbrev pub code_line : CodeFault → List ℕ
 code_line fault = codes "input code line " ++ code_tail fault ++ codes "\n"
 
+-- the line of a fault of the input
 abbrev pub input_line : InputFault → List ℕ
 input_line (TooLong which) = which_line (codes "input too long") which
 input_line (Loops fault) = loops_line fault

@@ -1,14 +1,50 @@
--- Which refusals there are, by what is read and by what the words ask for, whatever the files hold.
-use Rattle.std.specs.Prelude.{◌≡◌, ◌≢◌, ◌⊎◌, Option, Some, None}
-use Rattle.gouge_checker.specs.declared.verdict.Verdict.TheVariants as verdict
-use Rattle.job_words.specs.declared.request.Request.{Request}
-use Rattle.job_words.specs.declared.request.Request.TheVariants.{Probe, Moves, Check}
+-- The refusal that reports a fault, and which refusals there are by what is read, whatever the files have.
+use Rattle.std.specs.Prelude.{◌≡◌, ◌≢◌, ◌⊎◌}
 use Rattle.loops_text.specs.declared.fault.LoopsKind.TheVariants as loops
+use Rattle.gcode_text.specs.declared.fault.FinishFault.{FinishFault}
+use Rattle.gcode_text.specs.declared.fault.FinishFault.TheVariants as finish
+use Rattle.job_words.specs.declared.fault.WordsFault.{WordsFault}
+use Rattle.job_words.specs.declared.fault.WordsFault.TheVariants as words
+use Rattle.loops_text.specs.declared.fault.LoopsFault.{LoopsFault}
+use Rattle.loops_text.specs.declared.fault.LoopsKind.{LoopsKind}
+use Rattle.shop_port.specs.declared.loading.LoadFault.{LoadFault}
+use Rattle.shop_port.specs.declared.loading.LoadFault.TheVariants as load
+use Rattle.engrave_core.specs.declared.refusal.Refusal.{Refusal}
+use Rattle.engrave_core.specs.declared.refusal.Refusal.TheVariants as refusal
 use Rattle.engrave_core.specs.declared.outcome.InputFault.TheVariants.{TooLong, Loops, Code as CodeOf}
 use Rattle.engrave_core.specs.declared.outcome.Outcome.{Outcome}
-use Rattle.engrave_core.specs.declared.outcome.Outcome.TheVariants.{Done, NotClear, Usage, Input, Absent, ReadFault, WriteFault, Memory}
+use Rattle.engrave_core.specs.declared.outcome.Outcome.TheVariants.{Input, Absent, ReadFault, Memory}
 use Rattle.engrave_core.specs.declared.outcome.Which.{Which}
 use Rattle.engrave_core.specs.declared.outcome.Which.TheVariants.{Drawing, Code}
+
+-- ---- the refusal that reports a fault
+
+-- the refusal of words that make no request
+abbrev pub words_refusal : WordsFault → Refusal
+words_refusal words.Usage = refusal.Usage
+words_refusal words.Memory = refusal.Memory
+
+-- the refusal of a file that wasn't loaded
+abbrev pub file_refusal : Which → LoadFault → Refusal
+file_refusal which load.Absent = refusal.Absent which
+file_refusal which load.ReadFault = refusal.ReadFault
+file_refusal which load.TooLong = refusal.Input (TooLong which)
+file_refusal which load.Memory = refusal.Memory
+
+abbrev loops_refusal_by : LoopsKind → LoopsFault → Refusal
+loops_refusal_by loops.Memory fault = refusal.Memory
+loops_refusal_by kind fault = refusal.Input (Loops fault)
+
+-- the refusal of a text that has no drawing in loops form
+abbrev pub loops_refusal : LoopsFault → Refusal
+loops_refusal fault = loops_refusal_by fault.kind fault
+
+-- the refusal of a text that is no G-code program of the profile
+abbrev pub code_refusal : FinishFault → Refusal
+code_refusal (finish.Code fault) = refusal.Input (CodeOf fault)
+code_refusal finish.Memory = refusal.Memory
+
+-- ---- which refusals there are
 
 -- the refusals of a file
 abbrev pub IsRefusalOfFile : Which → Outcome → Type 0
@@ -18,48 +54,22 @@ IsRefusalOfFile which ReadFault = Unit {0}
 IsRefusalOfFile which Memory = Unit {0}
 IsRefusalOfFile which outcome = ⊥
 
--- the refusals of a text in loops form; want of memory isn't told as a fault of the text
+-- the refusals of a text in loops form; running out of memory isn't reported as a fault of the text
 abbrev pub IsRefusalOfLoops : Outcome → Type 0
 IsRefusalOfLoops (Input (Loops fault)) = fault.kind ≢ loops.Memory
 IsRefusalOfLoops Memory = Unit {0}
 IsRefusalOfLoops outcome = ⊥
 
--- the refusals of a text as code
+-- the refusals of a text as a G-code program
 abbrev pub IsRefusalOfCode : Outcome → Type 0
 IsRefusalOfCode (Input (CodeOf fault)) = Unit {0}
 IsRefusalOfCode Memory = Unit {0}
 IsRefusalOfCode outcome = ⊥
 
--- the refusals of the moves of a code
-abbrev pub IsRefusalOfMoves : Outcome → Type 0
-IsRefusalOfMoves (NotClear fault) = fault ≢ verdict.Clear
-IsRefusalOfMoves Memory = Unit {0}
-IsRefusalOfMoves outcome = ⊥
-
 -- the refusals of the file that `--drawing` names
-abbrev pub IsRefusalOfHeldDrawing : Outcome → Type 0
-IsRefusalOfHeldDrawing outcome = IsRefusalOfFile Drawing outcome ⊎ IsRefusalOfLoops outcome
+abbrev pub IsRefusalOfStoredDrawing : Outcome → Type 0
+IsRefusalOfStoredDrawing outcome = IsRefusalOfFile Drawing outcome ⊎ IsRefusalOfLoops outcome
 
 -- the refusals of the file that `--code` names
-abbrev pub IsRefusalOfHeldCode : Outcome → Type 0
-IsRefusalOfHeldCode outcome = IsRefusalOfFile Code outcome ⊎ IsRefusalOfCode outcome
-
--- the refusals of words that are taken
-abbrev pub IsRefusalOfRequest : Request → Outcome → Type 0
-IsRefusalOfRequest (Probe shape at bit rmax limit) outcome = IsRefusalOfHeldDrawing outcome
-IsRefusalOfRequest (Moves code units) outcome = IsRefusalOfHeldCode outcome
-IsRefusalOfRequest (Check shape code bit rmax) outcome =
-    IsRefusalOfHeldDrawing outcome ⊎ (IsRefusalOfHeldCode outcome ⊎ IsRefusalOfMoves outcome)
-
--- the refusals of words, by the request that they make, if they are taken
-abbrev pub IsRefusalOfWords : Option Request → Outcome → Type 0
-IsRefusalOfWords None Usage = Unit {0}
-IsRefusalOfWords None Memory = Unit {0}
-IsRefusalOfWords None outcome = ⊥
-IsRefusalOfWords (Some request) outcome = IsRefusalOfRequest request outcome
-
--- the answers that there are to words, whatever the files hold and whatever fails
-abbrev pub IsAnswer : Option Request → Outcome → Type 0
-IsAnswer (Some request) Done = Unit {0}
-IsAnswer request WriteFault = Unit {0}
-IsAnswer request outcome = IsRefusalOfWords request outcome
+abbrev pub IsRefusalOfStoredCode : Outcome → Type 0
+IsRefusalOfStoredCode outcome = IsRefusalOfFile Code outcome ⊎ IsRefusalOfCode outcome

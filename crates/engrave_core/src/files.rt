@@ -1,13 +1,13 @@
 // The files that a command names: loaded and read, or refused.
-ghost use Rattle.std.specs.Prelude.{◌≡◌, ◌≤◌, length, IfOk, IfErr, IfSome};
-ghost use Rattle.engrave_core.specs.Due.{IsReadAs, bytes_of, code_of, drawing_of, held_code, held_drawing, most_code_bytes, most_drawing_bytes};
-ghost use Rattle.engrave_core.specs.Refusals.{IsRefusalOfCode, IsRefusalOfFile, IsRefusalOfHeldCode, IsRefusalOfHeldDrawing, IsRefusalOfLoops};
-ghost use Rattle.engrave_core.specs.Top.{IsCaused};
+ghost use Rattle.std.specs.Prelude.{◌≡◌, ◌≤◌, length, IfOk, IfErr};
+ghost use Rattle.engrave_core.specs.Stored.{AnswersFrom, IsReadAs, bytes_of, code_of, drawing_of, stored_code, stored_drawing, most_code_bytes, most_drawing_bytes};
+ghost use Rattle.engrave_core.specs.Outcome.{outcome_of};
+ghost use Rattle.engrave_core.specs.Refusals.{IsRefusalOfCode, IsRefusalOfFile, IsRefusalOfStoredCode, IsRefusalOfStoredDrawing, IsRefusalOfLoops};
 
-use crate::outcome::{InputFault, Outcome, Which};
-use gcode_text::FinishFault;
+use crate::outcome::{InputFault, Which};
+use crate::refusal::Refusal;
 use grid_num::Units;
-use loops_text::{Drawing, LoopsFault, LoopsKind, read_loops};
+use loops_text::{Drawing, read_loops};
 use plane_exact::LineMove;
 use shop_port::{Depot, LoadFault, load};
 use std::alloc::Global;
@@ -15,35 +15,29 @@ use std::alloc::Global;
 /// A drawing's file may have 16,777,216 bytes.
 pub const MOST_DRAWING_BYTES: u64 = 16_777_216;
 
-/// A code's file may have 536,870,912 bytes.
+/// The file of a G-code program may have 536,870,912 bytes.
 pub const MOST_CODE_BYTES: u64 = 536_870_912;
 
 /// The drawing in the file of this name, or the refusal.
-#[tactic(auto, unfolding(crate::specs::Due::held_drawing))]
-pub fn load_drawing<D: Depot>(alloc: Global, name: &str, depot: &mut D) -> Result<Drawing, Outcome>
-    ensures told { IfSome (D.held depot.old) (λ files. IsReadAs result (λ drawing. drawing) (held_drawing files name.now)) }
-    ensures refusal { IfErr result IsRefusalOfHeldDrawing }
-    ensures caused { IfErr result (IsCaused (D.faults depot.old) (D.faults depot.new) (D.misses depot.old) (D.misses depot.new)) }
-    ensures held { D.held depot.new ≡ D.held depot.old }
-    ensures faults { D.faults depot.old ≤ D.faults depot.new }
-    ensures misses { D.misses depot.old ≤ D.misses depot.new }
+#[tactic(auto, unfolding(crate::specs::Stored::stored_drawing))]
+pub fn load_drawing<D: Depot>(alloc: Global, name: &str, depot: &mut D) -> Result<Drawing, Refusal>
+    ensures value { AnswersFrom D.held D.faults D.misses depot.old depot.new (λ files. IsReadAs (λ drawing. drawing) (stored_drawing files name.now)) result }
+    ensures refusal { IfErr result (λ refusal. IsRefusalOfStoredDrawing (outcome_of refusal)) }
 {
     let bytes = load_file(alloc, name, Which::Drawing, MOST_DRAWING_BYTES, depot)?;
     read_drawing(alloc, &bytes)
 }
 
-/// The moves of the code in the file of this name, or the refusal.
-#[tactic(auto, unfolding(crate::specs::Due::held_code))]
+/// The moves of the G-code program in the file of this name, or the refusal.
+#[tactic(auto, unfolding(crate::specs::Stored::stored_code))]
 pub fn load_code<D: Depot>(
     alloc: Global,
     name: &str,
     units: Units,
     depot: &mut D,
-) -> Result<Vec<LineMove>, Outcome>
-    ensures told { IfSome (D.held depot.old) (λ files. IsReadAs result (λ moves. moves.items) (held_code files units name.now)) }
-    ensures refusal { IfErr result IsRefusalOfHeldCode }
-    ensures caused { IfErr result (IsCaused (D.faults depot.old) (D.faults depot.new) (D.misses depot.old) (D.misses depot.new)) }
-    ensures held { D.held depot.new ≡ D.held depot.old }
+) -> Result<Vec<LineMove>, Refusal>
+    ensures value { AnswersFrom D.held D.faults D.misses depot.old depot.new (λ files. IsReadAs (λ moves. moves.items) (stored_code files units name.now)) result }
+    ensures refusal { IfErr result (λ refusal. IsRefusalOfStoredCode (outcome_of refusal)) }
 {
     let bytes = load_file(alloc, name, Which::Code, MOST_CODE_BYTES, depot)?;
     read_code(alloc, units, &bytes)
@@ -56,53 +50,36 @@ fn load_file<D: Depot>(
     which: Which,
     cap: u64,
     depot: &mut D,
-) -> Result<Vec<u8>, Outcome>
-    ensures told { IfSome (D.held depot.old) (λ files. IsReadAs result (λ bytes. bytes.items) (bytes_of which cap (files name.now))) }
-    ensures capped { IfOk result (λ bytes. length bytes.items ≤ cap) }
-    ensures refusal { IfErr result (IsRefusalOfFile which) }
-    ensures caused { IfErr result (IsCaused (D.faults depot.old) (D.faults depot.new) (D.misses depot.old) (D.misses depot.new)) }
-    ensures held { D.held depot.new ≡ D.held depot.old }
-    ensures faults { D.faults depot.old ≤ D.faults depot.new }
-    ensures misses { D.misses depot.old ≤ D.misses depot.new }
+) -> Result<Vec<u8>, Refusal>
+    ensures value { AnswersFrom D.held D.faults D.misses depot.old depot.new (λ files. IsReadAs (λ bytes. bytes.items) (bytes_of which cap (files name.now))) result }
+    ensures range { IfOk result (λ bytes. length bytes.items ≤ cap) }
+    ensures refusal { IfErr result (λ refusal. IsRefusalOfFile which (outcome_of refusal)) }
 {
     match load(alloc, depot, name, cap) {
         Ok(bytes) => Ok(bytes),
-        Err(LoadFault::Absent) => Err(Outcome::Absent(which)),
-        Err(LoadFault::ReadFault) => Err(Outcome::ReadFault),
-        Err(LoadFault::TooLong) => Err(Outcome::Input(InputFault::TooLong(which))),
-        Err(LoadFault::Memory) => Err(Outcome::Memory),
+        Err(LoadFault::Absent) => Err(Refusal::Absent(which)),
+        Err(LoadFault::ReadFault) => Err(Refusal::ReadFault),
+        Err(LoadFault::TooLong) => Err(Refusal::Input(InputFault::TooLong(which))),
+        Err(LoadFault::Memory) => Err(Refusal::Memory),
     }
 }
 
 /// The drawing of a text in loops form, or the refusal.
-#[tactic(auto, unfolding(crate::specs::Due::drawing_of))]
-fn read_drawing(alloc: Global, bytes: &[u8]) -> Result<Drawing, Outcome>
+#[tactic(auto, unfolding(crate::specs::Stored::drawing_of))]
+fn read_drawing(alloc: Global, bytes: &[u8]) -> Result<Drawing, Refusal>
     requires { length bytes.now ≤ most_drawing_bytes }
-    ensures told { IsReadAs result (λ drawing. drawing) (drawing_of bytes.now) }
-    ensures refusal { IfErr result IsRefusalOfLoops }
+    ensures value { IsReadAs (λ drawing. drawing) (drawing_of bytes.now) result }
+    ensures refusal { IfErr result (λ refusal. IsRefusalOfLoops (outcome_of refusal)) }
 {
-    match read_loops(alloc, bytes) {
-        Ok(drawing) => Ok(drawing),
-        Err(
-            LoopsFault {
-                kind: LoopsKind::Memory,
-                ..
-            },
-        ) => Err(Outcome::Memory),
-        Err(fault) => Err(Outcome::Input(InputFault::Loops(fault))),
-    }
+    Ok(read_loops(alloc, bytes)?)
 }
 
-/// The moves of a code, or the refusal.
-#[tactic(auto, unfolding(crate::specs::Due::code_of))]
-fn read_code(alloc: Global, units: Units, bytes: &[u8]) -> Result<Vec<LineMove>, Outcome>
+/// The moves of a G-code program, or the refusal.
+#[tactic(auto, unfolding(crate::specs::Stored::code_of))]
+fn read_code(alloc: Global, units: Units, bytes: &[u8]) -> Result<Vec<LineMove>, Refusal>
     requires { length bytes.now ≤ most_code_bytes }
-    ensures told { IsReadAs result (λ moves. moves.items) (code_of units bytes.now) }
-    ensures refusal { IfErr result IsRefusalOfCode }
+    ensures value { IsReadAs (λ moves. moves.items) (code_of units bytes.now) result }
+    ensures refusal { IfErr result (λ refusal. IsRefusalOfCode (outcome_of refusal)) }
 {
-    match gcode_text::read_code(alloc, units, bytes) {
-        Ok(moves) => Ok(moves),
-        Err(FinishFault::Code(fault)) => Err(Outcome::Input(InputFault::Code(fault))),
-        Err(FinishFault::Memory) => Err(Outcome::Memory),
-    }
+    Ok(gcode_text::read_code(alloc, units, bytes)?)
 }

@@ -3,11 +3,11 @@
 //! The whole promise is in the clauses of `engrave`, first `safe` and `due`.
 #![tactic(auto)]
 
-mod command;
+mod commands;
 mod files;
 mod line;
-mod listing;
 mod outcome;
+mod refusal;
 mod top;
 
 pub use outcome::{InputFault, Outcome, Which, status};

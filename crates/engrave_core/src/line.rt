@@ -1,25 +1,27 @@
-// The lines that tell a refusal.
+// The lines that report a refusal.
 ghost use Rattle.std.specs.Prelude.{◌≡◌, string_bytes, IfOk, MatchOption};
+ghost use Rattle.engrave_core.specs.Outcome.{outcome_of};
 ghost use Rattle.engrave_core.specs.Line.{line_of, input_line, loops_line, code_line, verdict_line};
 
-use crate::outcome::{InputFault, Outcome, Which};
+use crate::outcome::{InputFault, Which};
+use crate::refusal::Refusal;
 use gcode_text::CodeFault;
 use gouge_checker::Verdict;
 use loops_text::LoopsFault;
 use std::alloc::{AllocError, Global};
 
-/// The line of a refusal; empty for an outcome that has none.
-pub fn line_of_refusal(alloc: Global, outcome: &Outcome) -> Result<String, AllocError>
-    ensures { IfOk result (λ line. string_bytes line ≡ line_of outcome.now) }
+/// The line of a refusal; empty for running out of memory, which has none.
+pub fn line_of_refusal(alloc: Global, refusal: &Refusal) -> Result<String, AllocError>
+    ensures { IfOk result (λ line. string_bytes line ≡ line_of (outcome_of refusal.now)) }
 {
-    match outcome {
-        Outcome::NotClear(verdict) => line_of_verdict(alloc, verdict),
-        Outcome::Usage => String::from_str(alloc, "usage\n"),
-        Outcome::Input(fault) => line_of_input(alloc, fault),
-        Outcome::Absent(Which::Drawing) => String::from_str(alloc, "absent drawing\n"),
-        Outcome::Absent(Which::Code) => String::from_str(alloc, "absent code\n"),
-        Outcome::ReadFault => String::from_str(alloc, "read fault\n"),
-        Outcome::Done | Outcome::WriteFault | Outcome::Memory => Ok(String::new(alloc)),
+    match refusal {
+        Refusal::NotClear(verdict) => line_of_verdict(alloc, verdict),
+        Refusal::Usage => String::from_str(alloc, "usage\n"),
+        Refusal::Input(fault) => line_of_input(alloc, fault),
+        Refusal::Absent(Which::Drawing) => String::from_str(alloc, "absent drawing\n"),
+        Refusal::Absent(Which::Code) => String::from_str(alloc, "absent code\n"),
+        Refusal::ReadFault => String::from_str(alloc, "read fault\n"),
+        Refusal::Memory => Ok(String::new(alloc)),
     }
 }
 

@@ -1,4 +1,4 @@
-// What a run of the program comes to, and the exit status that tells it.
+// What a run of the program comes to, and the exit status that reports it.
 ghost use Rattle.std.specs.Prelude.{◌≡◌};
 ghost use Rattle.engrave_core.specs.Outcome.{status_of};
 
@@ -11,7 +11,7 @@ use loops_text::LoopsFault;
 pub enum Outcome {
     /// The whole text was written.
     Done,
-    /// The code isn't clear: the verdict on it, which isn't `Clear`.
+    /// The G-code program isn't clear: the verdict on it, which isn't `Clear`.
     NotClear(Verdict),
     /// The words aren't a command of the program.
     Usage,
@@ -43,11 +43,11 @@ pub enum InputFault {
     TooLong(Which),
     /// The drawing isn't in loops form.
     Loops(LoopsFault),
-    /// The code isn't code of the profile.
+    /// The text isn't a G-code program of the profile.
     Code(CodeFault),
 }
 
-/// The exit status that tells an outcome: from 0 for `Done` to 7 for `Memory`, in the order of the outcomes.
+/// The exit status that reports an outcome: from 0 for `Done` to 7 for `Memory`, in the order of the outcomes.
 pub fn status(outcome: &Outcome) -> u8
     ensures { result ≡ status_of outcome.now }
 {

@@ -1,17 +1,18 @@
 // The top call: a command's words in, its outcome and its whole text out.
-ghost use Rattle.std.specs.Prelude.{◌≡◌, ◌⊎◌, ◌≤◌, map, string_bytes, IfSome, IfOk, OnOk};
+ghost use Rattle.std.specs.Prelude.{◌≡◌, ◌⊎◌, map, string_bytes, IfSome, IfOk};
 ghost use Rattle.job_words.specs.Request.{request_of};
 ghost use Rattle.shop_port.specs.Counts.{Rose};
 ghost use Rattle.shop_port.specs.Output.{Appended, AppendedPart};
-ghost use Rattle.engrave_core.specs.Due.{IsDue};
+ghost use Rattle.engrave_core.specs.Due.{IsAccepted, IsAnswer, IsDue, IsSafeRun};
+ghost use Rattle.engrave_core.specs.Stored.{IsCaused};
 ghost use Rattle.engrave_core.specs.Line.{line_of};
 ghost use Rattle.engrave_core.specs.Outcome.{IfAnswered, IfRefused, HasText};
-ghost use Rattle.engrave_core.specs.Refusals.{IsAnswer};
-ghost use Rattle.engrave_core.specs.Top.{IsTaken, WritesDue, WritesPart, WritesPartOfReadFault, IsCaused, IsSafeRun};
+ghost use Rattle.engrave_core.specs.Top.{WritesDue, WritesPart, WritesPartOfReadFault};
 
-use crate::command::answer;
+use crate::commands::answer;
 use crate::line::line_of_refusal;
 use crate::outcome::Outcome;
+use crate::refusal::Refusal;
 use shop_port::{Depot, Sink, WriteFault, send};
 use std::alloc::{AllocError, Global};
 
@@ -24,17 +25,32 @@ struct Reply {
 
 /// Runs a command: reads its words and files, makes the whole text, and writes it.
 ///
-/// The words don't include the program's own name. A refusal writes its one line; want of memory writes nothing; where
-/// the output fails, a front part of the text was written.
+/// The words don't include the program's own name. A refusal writes its one line; running out of memory writes nothing;
+/// where the output fails, a front part of the text was written.
+// If you change this: a new command changes no clause here, only what is due for it. A clause is never weakened to let a
+// body pass; where the outside may do one more thing, it gets a clause of its own that names the cause.
 pub fn engrave<D: Depot, S: Sink>(
     alloc: Global,
     words: &[String],
     depot: &mut D,
     out: &mut S,
 ) -> Outcome
+    // A G-code program that is called clear removes no point outside the drawing, at any moment of any move.
+    ensures safe { IfSome (D.held depot.old) (λ files. result ≡ Outcome.Done → IsSafeRun files (request_of (map string_bytes words.now))) }
+
     // What the words and the files decide is what is due, and its whole text is written.
     ensures due { IfSome (D.held depot.old) (λ files. IfAnswered result
         (WritesDue (map string_bytes words.now) files result (S.written out.old) (S.written out.new))) }
+
+    // Where nothing of the outside failed, the outcome is the one that is due, or memory ran out.
+    ensures complete { IfSome (D.held depot.old) (λ files.
+        ¬ Rose (D.faults depot.old) (D.faults depot.new) → ¬ Rose (S.faults out.old) (S.faults out.new) →
+        (result ≡ Outcome.Memory)
+        ⊎ WritesDue (map string_bytes words.now) files result (S.written out.old) (S.written out.new)) }
+
+    // The answers that there are to words, whatever the files have; where the words aren't accepted, no file is asked for.
+    ensures answers { IsAnswer (request_of (map string_bytes words.now)) result }
+    ensures untouched { ¬ IsAccepted (map string_bytes words.now) → depot.new ≡ depot.old }
 
     // A refusal writes its own line and nothing else.
     ensures refused { IfRefused result (Appended (S.written out.old) (S.written out.new) (line_of result)) }
@@ -46,23 +62,11 @@ pub fn engrave<D: Depot, S: Sink>(
         WritesPart (map string_bytes words.now) files (S.written out.old) (S.written out.new)
         ⊎ WritesPartOfReadFault (S.written out.old) (S.written out.new) (D.faults depot.old) (D.faults depot.new)) }
 
-    // The answers that there are to words, whatever the files hold; where the words aren't taken, no file is asked for.
-    ensures answers { IsAnswer (request_of (map string_bytes words.now)) result }
-    ensures untouched { ¬ IsTaken (map string_bytes words.now) → depot.new ≡ depot.old }
-
-    // Want of memory writes nothing.
+    // Running out of memory writes nothing.
     ensures memory { result ≡ Outcome.Memory → S.written out.new ≡ S.written out.old }
 
-    // Where nothing of the outside failed, the outcome is the one that is due, or memory ran out.
-    ensures complete { IfSome (D.held depot.old) (λ files.
-        ¬ Rose (D.faults depot.old) (D.faults depot.new) → ¬ Rose (S.faults out.old) (S.faults out.new) →
-        (result ≡ Outcome.Memory)
-        ⊎ WritesDue (map string_bytes words.now) files result (S.written out.old) (S.written out.new)) }
-
-    // Code that is called clear removes no point outside the drawing, at any moment of any move.
-    ensures safe { IfSome (D.held depot.old) (λ files. result ≡ Outcome.Done → IsSafeRun files (request_of (map string_bytes words.now))) }
-
-    ensures held { D.held depot.new ≡ D.held depot.old }
+    // The files stay as they were.
+    ensures unchanged { D.held depot.new ≡ D.held depot.old }
 {
     match decide(alloc, words, depot) {
         Ok(reply) => write(reply, out),
@@ -70,7 +74,8 @@ pub fn engrave<D: Depot, S: Sink>(
     }
 }
 
-/// Makes the outcome and the whole text.
+/// Makes the outcome and the whole text, before anything is written.
+// The result is nested, since running out of memory has no text: it is an `Err`, and every other outcome a reply.
 fn decide<D: Depot>(alloc: Global, words: &[String], depot: &mut D) -> Result<Reply, AllocError>
     ensures due { IfSome (D.held depot.old) (λ files. IfOk result (λ reply. IfAnswered reply.outcome
         (IsDue (map string_bytes words.now) files reply.outcome (string_bytes reply.text)))) }
@@ -78,18 +83,21 @@ fn decide<D: Depot>(alloc: Global, words: &[String], depot: &mut D) -> Result<Re
     ensures writes { IfOk result (λ reply. HasText reply.outcome) }
     ensures answers { IfOk result (λ reply. IsAnswer (request_of (map string_bytes words.now)) reply.outcome) }
     ensures caused { IfOk result (λ reply. IsCaused (D.faults depot.old) (D.faults depot.new) (D.misses depot.old) (D.misses depot.new) reply.outcome) }
-    ensures untouched { ¬ IsTaken (map string_bytes words.now) → depot.new ≡ depot.old }
-    ensures held { D.held depot.new ≡ D.held depot.old }
+    ensures untouched { ¬ IsAccepted (map string_bytes words.now) → depot.new ≡ depot.old }
+    ensures unchanged { D.held depot.new ≡ D.held depot.old }
 {
     match answer(alloc, words, depot) {
         Ok(text) => Ok(Reply {
             outcome: Outcome::Done,
             text,
         }),
-        Err(Outcome::Memory) => Err(AllocError),
-        Err(outcome) => {
-            let text = line_of_refusal(alloc, &outcome)?;
-            Ok(Reply { outcome, text })
+        Err(Refusal::Memory) => Err(AllocError),
+        Err(refusal) => {
+            let text = line_of_refusal(alloc, &refusal)?;
+            Ok(Reply {
+                outcome: Outcome::from(refusal),
+                text,
+            })
         }
     }
 }

@@ -1,13 +1,36 @@
-// The moves of a code as lines of text.
-ghost use Rattle.std.specs.Prelude.{◌≡◌, IfOk, flat_map, string_bytes};
-ghost use Rattle.engrave_core.specs.Due.{move_line, moves_text, place_text};
+// `moves`: the moves of a G-code program, a line each, and their number.
+ghost use Rattle.std.specs.Prelude.{◌≡◌, IfOk, IfErr, flat_map, string_bytes};
+ghost use Rattle.engrave_core.specs.Commands.Moves.{IsDueOfMoves, IsRefusalOfMoves, move_line, moves_text, place_text};
+ghost use Rattle.engrave_core.specs.Given.{IsReported};
+ghost use Rattle.engrave_core.specs.Stored.{AnswersFrom};
+ghost use Rattle.engrave_core.specs.Outcome.{outcome_of};
 
+use crate::files::load_code;
+use crate::refusal::Refusal;
+use grid_num::Units;
+use job_words::Text;
 use plane_exact::{LineMove, Place};
+use shop_port::Depot;
 use std::alloc::{AllocError, Global};
 
+/// The list of the moves, or the refusal of the program.
+pub fn run<D: Depot>(
+    alloc: Global,
+    code: &Text,
+    units: Units,
+    depot: &mut D,
+) -> Result<String, Refusal>
+    ensures value { AnswersFrom D.held D.faults D.misses depot.old depot.new
+        (λ files. IsReported (IsDueOfMoves files code.now units)) result }
+    ensures refusal { IfErr result (λ refusal. IsRefusalOfMoves (outcome_of refusal)) }
+{
+    let moves = load_code(alloc, code.as_str(), units, depot)?;
+    Ok(list_moves(alloc, &moves)?)
+}
+
 /// A line `LINE X,Y,H X,Y,H` for each move, its places in grid units, and then `moves COUNT`.
-#[tactic(auto, unfolding(crate::specs::Due::moves_text))]
-pub fn list_moves(alloc: Global, moves: &[LineMove]) -> Result<String, AllocError>
+#[tactic(auto, unfolding(crate::specs::Commands::Moves::moves_text))]
+fn list_moves(alloc: Global, moves: &[LineMove]) -> Result<String, AllocError>
     ensures { IfOk result (λ text. string_bytes text ≡ moves_text moves.now) }
 {
     let mut text = list_each(alloc, moves)?;
@@ -28,7 +51,7 @@ fn list_each(alloc: Global, moves: &[LineMove]) -> Result<String, AllocError>
     Ok(text)
 }
 
-#[tactic(auto, unfolding(crate::specs::Due::move_line))]
+#[tactic(auto, unfolding(crate::specs::Commands::Moves::move_line))]
 fn list_move(alloc: Global, line_move: &LineMove) -> Result<String, AllocError>
     ensures { IfOk result (λ text. string_bytes text ≡ move_line line_move.now) }
 {
@@ -39,7 +62,7 @@ fn list_move(alloc: Global, line_move: &LineMove) -> Result<String, AllocError>
 }
 
 /// The place's coordinates and its height.
-#[tactic(auto, unfolding(crate::specs::Due::place_text))]
+#[tactic(auto, unfolding(crate::specs::Commands::Moves::place_text))]
 fn list_place(alloc: Global, place: &Place) -> Result<String, AllocError>
     ensures { IfOk result (λ text. string_bytes text ≡ place_text place.now) }
 {

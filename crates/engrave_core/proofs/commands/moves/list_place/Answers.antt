@@ -3,9 +3,9 @@ use Rattle.std.specs.Prelude.{FitsSigned, codes, string_bytes}
 use Rattle.std.specs.Fmt.{signed_decimal}
 use Rattle.std.proofs.Common.{rules, w32, sym, ◌++◌, append_assoc}
 use Rattle.std.proofs.lemmas.Int.{to_z-of_z}
-use Rattle.engrave_core.specs.Due.{place_text}
+use Rattle.engrave_core.specs.Commands.Moves.{place_text}
 use Rattle.engrave_core.proofs.Texts.{IfOk-bytes}
-use Rattle.engrave_core.proofs.listing.list_place.Goals as goal
+use Rattle.engrave_core.proofs.commands.moves.list_place.Goals as goal
 
 pub returns : goal.returns
 unfolding place_text

@@ -1,9 +1,9 @@
 -- Answers the goals of `list_move`.
 use Rattle.std.specs.Prelude.{codes, decimal, string_bytes}
 use Rattle.std.proofs.Common.{sym, ◌++◌, append_assoc}
-use Rattle.engrave_core.specs.Due.{move_line}
+use Rattle.engrave_core.specs.Commands.Moves.{move_line}
 use Rattle.engrave_core.proofs.Texts.{IfOk-bytes}
-use Rattle.engrave_core.proofs.listing.list_move.Goals as goal
+use Rattle.engrave_core.proofs.commands.moves.list_move.Goals as goal
 
 pub returns : goal.returns
 unfolding move_line

@@ -1,0 +1,64 @@
+// What the words' command gives: the text that it writes, or the refusal.
+ghost use Rattle.std.specs.Prelude.{◌≡◌, IfOk, IfErr, map, string_bytes};
+ghost use Rattle.plane_exact.specs.Cone.{IsCone};
+ghost use Rattle.job_words.specs.Request.{IsInRange, request_of};
+ghost use Rattle.engrave_core.specs.Commands.{IsDueOfRequest, IsRefusalOfRequest};
+ghost use Rattle.engrave_core.specs.Due.{IsAccepted, IsDue, IsRefusalOfWords};
+ghost use Rattle.engrave_core.specs.Given.{IsReported, cone_of};
+ghost use Rattle.engrave_core.specs.Stored.{AnswersFrom};
+ghost use Rattle.engrave_core.specs.Outcome.{outcome_of};
+
+mod check;
+mod moves;
+mod probe;
+
+use crate::refusal::Refusal;
+use job_words::{Request, read_words};
+use plane_exact::Bit;
+use shop_port::Depot;
+use std::alloc::Global;
+
+/// The text that the words' command writes, or the refusal.
+pub fn answer<D: Depot>(alloc: Global, words: &[String], depot: &mut D) -> Result<String, Refusal>
+    ensures value { AnswersFrom D.held D.faults D.misses depot.old depot.new
+        (λ files. IsReported (IsDue (map string_bytes words.now) files)) result }
+    ensures refusal { IfErr result (λ refusal. IsRefusalOfWords (request_of (map string_bytes words.now)) (outcome_of refusal)) }
+    ensures accepted { IfOk result (λ _. IsAccepted (map string_bytes words.now)) }
+    ensures untouched { ¬ IsAccepted (map string_bytes words.now) → depot.new ≡ depot.old }
+{
+    let request = read_words(alloc, words)?;
+    run(alloc, &request, depot)
+}
+
+/// The text that the request's command writes, or the refusal.
+fn run<D: Depot>(alloc: Global, request: &Request, depot: &mut D) -> Result<String, Refusal>
+    requires { IsInRange request.now }
+    ensures value { AnswersFrom D.held D.faults D.misses depot.old depot.new
+        (λ files. IsReported (IsDueOfRequest files request.now)) result }
+    ensures refusal { IfErr result (λ refusal. IsRefusalOfRequest request.now (outcome_of refusal)) }
+{
+    match request {
+        Request::Probe {
+            shape,
+            at,
+            bit,
+            rmax,
+            limit,
+        } => probe::run(alloc, shape, *at, &bit_of(*bit, *rmax), *limit, depot),
+        Request::Moves { code, units } => moves::run(alloc, code, *units, depot),
+        Request::Check {
+            shape,
+            code,
+            bit,
+            rmax,
+        } => check::run(alloc, shape, code, &bit_of(*bit, *rmax), depot),
+    }
+}
+
+/// The bit of a request's slope and greatest radius.
+fn bit_of(bit: (u32, u32), rmax: u32) -> Bit
+    requires { IsCone bit.0 bit.1 rmax }
+    ensures { result ≡ cone_of bit rmax }
+{
+    Bit::new(bit.0, bit.1, rmax).unwrap()
+}

@@ -1,0 +1,92 @@
+// Why a command gives no text.
+ghost use Rattle.std.specs.Prelude.{◌≡◌};
+
+use crate::outcome::{InputFault, Outcome, Which};
+use gcode_text::FinishFault;
+use gouge_checker::Verdict;
+use job_words::WordsFault;
+use loops_text::{LoopsFault, LoopsKind};
+use std::alloc::AllocError;
+
+/// Why a command gives no text. As an outcome it is neither `Done` nor `WriteFault`.
+#[derive(Clone, Copy, Debug, PartialEq, Eq)]
+pub enum Refusal {
+    /// The G-code program isn't clear: the verdict on it, which isn't `Clear`.
+    NotClear(Verdict),
+    /// The words aren't a command of the program.
+    Usage,
+    /// The input has a fault.
+    Input(InputFault),
+    /// There is no file of this name.
+    Absent(Which),
+    /// A file couldn't be read.
+    ReadFault,
+    /// Memory ran out.
+    Memory,
+}
+
+impl From<Refusal> for Outcome {
+    ghost use Rattle.engrave_core.specs.Outcome.{outcome_of};
+
+    ghost from_gives = { λ refusal outcome. outcome ≡ outcome_of refusal };
+
+    fn from(refusal: Refusal) -> Outcome {
+        match refusal {
+            Refusal::NotClear(verdict) => Outcome::NotClear(verdict),
+            Refusal::Usage => Outcome::Usage,
+            Refusal::Input(fault) => Outcome::Input(fault),
+            Refusal::Absent(which) => Outcome::Absent(which),
+            Refusal::ReadFault => Outcome::ReadFault,
+            Refusal::Memory => Outcome::Memory,
+        }
+    }
+}
+
+impl From<AllocError> for Refusal {
+    ghost use Rattle.engrave_core.specs.declared.refusal.Refusal.TheVariants.{Memory};
+
+    ghost from_gives = { λ _ refusal. refusal ≡ Memory };
+
+    fn from(_: AllocError) -> Refusal {
+        Refusal::Memory
+    }
+}
+
+impl From<WordsFault> for Refusal {
+    ghost use Rattle.engrave_core.specs.Refusals.{words_refusal};
+
+    ghost from_gives = { λ fault refusal. refusal ≡ words_refusal fault };
+
+    fn from(fault: WordsFault) -> Refusal {
+        match fault {
+            WordsFault::Usage => Refusal::Usage,
+            WordsFault::Memory => Refusal::Memory,
+        }
+    }
+}
+
+impl From<LoopsFault> for Refusal {
+    ghost use Rattle.engrave_core.specs.Refusals.{loops_refusal};
+
+    ghost from_gives = { λ fault refusal. refusal ≡ loops_refusal fault };
+
+    fn from(fault: LoopsFault) -> Refusal {
+        match fault.kind {
+            LoopsKind::Memory => Refusal::Memory,
+            _ => Refusal::Input(InputFault::Loops(fault)),
+        }
+    }
+}
+
+impl From<FinishFault> for Refusal {
+    ghost use Rattle.engrave_core.specs.Refusals.{code_refusal};
+
+    ghost from_gives = { λ fault refusal. refusal ≡ code_refusal fault };
+
+    fn from(fault: FinishFault) -> Refusal {
+        match fault {
+            FinishFault::Code(fault) => Refusal::Input(InputFault::Code(fault)),
+            FinishFault::Memory => Refusal::Memory,
+        }
+    }
+}
