@@ -3,7 +3,9 @@ use Rattle.std.specs.Prelude.{◌≡◌, ◌≤◌, ℕ, Option, List, Result, O
 use Rattle.gcode_text.specs.Moves.{moves_of}
 use Rattle.grid_num.specs.Judging.{and_then}
 use Rattle.grid_num.specs.declared.units.Units.{Units}
+use Rattle.gcode_text.specs.declared.state.TheConstants.{MOST_CODE_BYTES}
 use Rattle.loops_text.specs.Grammar.{loops_of}
+use Rattle.loops_text.specs.declared.reader.TheConstants.{MOST_DRAWING_BYTES}
 use Rattle.plane_exact.specs.Plane.{GridPoint}
 use Rattle.plane_exact.specs.declared.moves.LineMove.{LineMove}
 use Rattle.shop_port.specs.Counts.{Rose}
@@ -21,14 +23,6 @@ use Rattle.engrave_core.specs.declared.refusal.Refusal.TheVariants.{Input}
 -- the bytes of each name, None where there is no such file
 abbrev pub Files : Type 0
 Files = List ℕ → Option (List ℕ)
-
--- a drawing's file may have 16,777,216 bytes
-abbrev pub most_drawing_bytes : ℕ
-most_drawing_bytes = 16777216
-
--- the file of a G-code program may have 536,870,912 bytes
-abbrev pub most_code_bytes : ℕ
-most_code_bytes = 536870912
 
 -- a value, or the refusal that reports the fault
 abbrev pub or_refused : {A E : Type 0} → (E → Refusal) → Result A E → Result A Refusal
@@ -49,11 +43,11 @@ code_of units text = or_refused (λ fault. Input (CodeOf fault)) (moves_of units
 
 -- the drawing that the stored file of this name has, or the refusal
 unfoldable pub stored_drawing : Files → List ℕ → Result (List (List GridPoint)) Refusal
-stored_drawing files name = and_then (bytes_of Drawing most_drawing_bytes (files name)) drawing_of
+stored_drawing files name = and_then (bytes_of Drawing MOST_DRAWING_BYTES (files name)) drawing_of
 
 -- the moves that the stored file of this name asks for, or the refusal
 unfoldable pub stored_code : Files → Units → List ℕ → Result (List LineMove) Refusal
-stored_code files units name = and_then (bytes_of Code most_code_bytes (files name)) (code_of units)
+stored_code files units name = and_then (bytes_of Code MOST_CODE_BYTES (files name)) (code_of units)
 
 -- a result of reading is the expected one: its value, or the refusal, where it was answered
 abbrev pub IsReadAs : {A B : Type 0} → (A → B) → Result B Refusal → Result A Refusal → Type 0

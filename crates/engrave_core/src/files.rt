@@ -1,22 +1,17 @@
 // The files that a command names: loaded and read, or refused.
 ghost use Rattle.std.specs.Prelude.{◌≡◌, ◌≤◌, length, IfOk, IfErr};
-ghost use Rattle.engrave_core.specs.Stored.{AnswersFrom, IsReadAs, bytes_of, code_of, drawing_of, stored_code, stored_drawing, most_code_bytes, most_drawing_bytes};
+ghost use Rattle.engrave_core.specs.Stored.{AnswersFrom, IsReadAs, bytes_of, code_of, drawing_of, stored_code, stored_drawing};
 ghost use Rattle.engrave_core.specs.Outcome.{outcome_of};
 ghost use Rattle.engrave_core.specs.Refusals.{IsRefusalOfCode, IsRefusalOfFile, IsRefusalOfStoredCode, IsRefusalOfStoredDrawing, IsRefusalOfLoops};
 
 use crate::outcome::{InputFault, Which};
 use crate::refusal::Refusal;
+use gcode_text::MOST_CODE_BYTES;
 use grid_num::Units;
-use loops_text::{Drawing, read_loops};
+use loops_text::{Drawing, MOST_DRAWING_BYTES, read_loops};
 use plane_exact::LineMove;
 use shop_port::{Depot, LoadFault, load};
 use std::alloc::Global;
-
-/// A drawing's file may have 16,777,216 bytes.
-pub const MOST_DRAWING_BYTES: u64 = 16_777_216;
-
-/// The file of a G-code program may have 536,870,912 bytes.
-pub const MOST_CODE_BYTES: u64 = 536_870_912;
 
 /// The drawing in the file of this name, or the refusal.
 #[tactic(auto, unfolding(crate::specs::Stored::stored_drawing))]
@@ -24,7 +19,13 @@ pub fn load_drawing<D: Depot>(alloc: Global, name: &str, depot: &mut D) -> Resul
     ensures value { AnswersFrom D.held D.faults D.misses depot.old depot.new (λ files. IsReadAs (λ drawing. drawing) (stored_drawing files name.now)) result }
     ensures refusal { IfErr result (λ refusal. IsRefusalOfStoredDrawing (outcome_of refusal)) }
 {
-    let bytes = load_file(alloc, name, Which::Drawing, MOST_DRAWING_BYTES, depot)?;
+    let bytes = load_file(
+        alloc,
+        name,
+        Which::Drawing,
+        MOST_DRAWING_BYTES as u64,
+        depot,
+    )?;
     read_drawing(alloc, &bytes)
 }
 
@@ -39,7 +40,7 @@ pub fn load_code<D: Depot>(
     ensures value { AnswersFrom D.held D.faults D.misses depot.old depot.new (λ files. IsReadAs (λ moves. moves.items) (stored_code files units name.now)) result }
     ensures refusal { IfErr result (λ refusal. IsRefusalOfStoredCode (outcome_of refusal)) }
 {
-    let bytes = load_file(alloc, name, Which::Code, MOST_CODE_BYTES, depot)?;
+    let bytes = load_file(alloc, name, Which::Code, u64::from(MOST_CODE_BYTES), depot)?;
     read_code(alloc, units, &bytes)
 }
 
@@ -67,7 +68,7 @@ fn load_file<D: Depot>(
 /// The drawing of a text in loops form, or the refusal.
 #[tactic(auto, unfolding(crate::specs::Stored::drawing_of))]
 fn read_drawing(alloc: Global, bytes: &[u8]) -> Result<Drawing, Refusal>
-    requires { length bytes.now ≤ most_drawing_bytes }
+    requires { length bytes.now ≤ MOST_DRAWING_BYTES }
     ensures value { IsReadAs (λ drawing. drawing) (drawing_of bytes.now) result }
     ensures refusal { IfErr result (λ refusal. IsRefusalOfLoops (outcome_of refusal)) }
 {
@@ -77,7 +78,7 @@ fn read_drawing(alloc: Global, bytes: &[u8]) -> Result<Drawing, Refusal>
 /// The moves of a G-code program, or the refusal.
 #[tactic(auto, unfolding(crate::specs::Stored::code_of))]
 fn read_code(alloc: Global, units: Units, bytes: &[u8]) -> Result<Vec<LineMove>, Refusal>
-    requires { length bytes.now ≤ most_code_bytes }
+    requires { length bytes.now ≤ MOST_CODE_BYTES }
     ensures value { IsReadAs (λ moves. moves.items) (code_of units bytes.now) result }
     ensures refusal { IfErr result (λ refusal. IsRefusalOfCode (outcome_of refusal)) }
 {
