@@ -1,2 +1,4 @@
 -- The lemmas of the crate.
 pub mod Bisection
+pub mod Mets
+pub mod Safety

@@ -4,7 +4,8 @@ use Rattle.plane_exact.specs.Cone.{Cone}
 use Rattle.plane_exact.specs.Plane.{rational}
 use Rattle.plane_exact.specs.declared.moves.Move.{Move}
 use Rattle.plane_exact.specs.declared.point.Seg.{Seg}
-use Rattle.engrave_model.specs.Clear.{IsDeep, PassesEdge, first_deep}
+use Rattle.plane_exact.specs.Moves.{IsDeep, first_deep}
+use Rattle.engrave_model.specs.Clear.{PassesEdge}
 use Rattle.engrave_model.specs.Inside.{IsInside}
 use Rattle.depth_rule.specs.declared.met.Met.{Met}
 use Rattle.depth_rule.specs.declared.met.Met.TheVariants.{Edge, Outside, Nothing}

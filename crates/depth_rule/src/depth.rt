@@ -1,12 +1,12 @@
 // The greatest depth that the bit may have at a point of a drawing.
-ghost use Rattle.std.specs.Prelude.{◌≡◌, ◌*◌, ◌≤◌, ℕ};
+ghost use Rattle.std.specs.Prelude.{◌≡◌, ◌↔◌, ◌*◌, ◌≤◌, ℕ, All, IsTrue};
 ghost use Rattle.plane_exact.specs.Cone.{IsFromOneTo};
-ghost use Rattle.engrave_model.specs.Depth.{IsDiscClear, IsGreatestDepth};
+ghost use Rattle.engrave_model.specs.Depth.{IsDiscClear, IsEdgeClear, IsGreatestDepth};
 ghost use Rattle.engrave_model.specs.Drawing.{edges_of};
 
 use crate::scene::Scene;
-use engrave_model::{MOST_DEPTH, is_disc_clear};
-use plane_exact::{Bit, Point, Seg};
+use plane_exact::{Bit, MOST_DEPTH, Point, Seg};
+use swept_move::is_edge_clear;
 
 /// The greatest depth up to `limit`, in grid units, that the bit may have over `p`: the greatest one at which its open
 /// disc holds no point of an edge and is no wider than the bit allows. It is 0 where `p` isn't inside.
@@ -50,4 +50,19 @@ fn greatest_clear(edges: &[Seg], p: Point, bit: &Bit, most: u32) -> u32
         }
     }
     low
+}
+
+/// Whether the open disc that the bit cuts over `p` at the depth `z` holds no point of any edge.
+pub(crate) fn is_disc_clear(edges: &[Seg], p: Point, bit: &Bit, z: u32) -> bool
+    requires { z ≤ MOST_DEPTH }
+    ensures { IsTrue result ↔ IsDiscClear edges.now bit.now p z }
+{
+    are_edges_clear(edges, p, bit, z)
+}
+
+fn are_edges_clear(edges: &[Seg], p: Point, bit: &Bit, z: u32) -> bool
+    requires { z ≤ MOST_DEPTH }
+    ensures { IsTrue result ↔ All (IsEdgeClear bit.now p z) edges.now }
+{
+    edges.iter().all(|e| is_edge_clear(*e, p, bit, z))
 }

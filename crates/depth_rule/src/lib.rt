@@ -1,13 +1,18 @@
 //! The scene of a drawing: how deep the bit may go at a point of it, and the first edge that a move meets.
 //!
 //! Its promise is the clause of `greatest_depth`, that the depth is the greatest that fits, and that of `first_met`, that the
-//! edge is the first against which the tests of a move fail.
+//! edge is the first against which the tests of a move fail, and `law::clear_move_law`, that a clear move is safe.
 #![tactic(auto)]
 
+mod clear;
 mod depth;
+pub mod law;
 mod met;
 mod scene;
+mod steps;
 
+pub use clear::{is_clear, is_slant};
 pub use depth::greatest_depth;
-pub use met::{Met, first_met, is_deep};
+pub use met::{Met, first_met};
 pub use scene::Scene;
+pub use steps::greatest_depth_by_steps;

@@ -1,13 +1,13 @@
 // What a move meets in a drawing: the first edge against which a test fails, or the outside.
-ghost use Rattle.std.specs.Prelude.{◌≡◌, ◌↔◌, ◌≤◌, length, IsTrue, IfSome, IfNone, All};
-ghost use Rattle.plane_exact.specs.Plane.{rational};
-ghost use Rattle.engrave_model.specs.Clear.{IsDeep, IsSlant, IsTooDeep, PassesEdge, depth_of, first_deep};
+ghost use Rattle.std.specs.Prelude.{◌≤◌, length, IfSome, IfNone, All};
+ghost use Rattle.plane_exact.specs.Moves.{IsTooDeep};
+ghost use Rattle.engrave_model.specs.Clear.{IsSlant, PassesEdge};
 ghost use Rattle.engrave_model.specs.Drawing.{edges_of};
-ghost use Rattle.engrave_model.specs.Inside.{IsInside};
 ghost use Rattle.depth_rule.specs.Met.{IsFirstMet, IsMet};
 
 use crate::scene::Scene;
-use plane_exact::{Bit, Move, Point, Seg};
+use engrave_model::MOST_EDGES;
+use plane_exact::{Bit, Move, Seg};
 use swept_move::clear_of;
 
 /// What a move meets.
@@ -30,7 +30,7 @@ pub fn first_met(scene: &Scene, bit: &Bit, mv: &Move) -> Met
     let edges = scene.drawing().all_edges();
     match first_edge_met(edges, bit, mv) {
         Some(e) => Met::Edge(e),
-        None if is_deep(mv) && !scene.is_inside(first_deep_place(mv)) => Met::Outside,
+        None if mv.is_deep() && !scene.is_inside(mv.first_deep_end()) => Met::Outside,
         None => Met::Nothing,
     }
 }
@@ -39,7 +39,7 @@ pub fn first_met(scene: &Scene, bit: &Bit, mv: &Move) -> Met
 fn first_edge_met(edges: &[Seg], bit: &Bit, mv: &Move) -> Option<u32>
     requires narrow { ¬ IsTooDeep bit.now mv.now }
     requires straight { ¬ IsSlant mv.now }
-    requires few { length edges.now ≤ 131072 }
+    requires few { length edges.now ≤ MOST_EDGES }
     ensures met { IfSome result (IsFirstMet edges.now bit.now mv.now) }
     ensures none { IfNone result (All (PassesEdge bit.now mv.now) edges.now) }
 {
@@ -49,18 +49,4 @@ fn first_edge_met(edges: &[Seg], bit: &Bit, mv: &Move) -> Option<u32>
         }
     }
     None
-}
-
-/// Whether one of the ends is below the surface.
-pub fn is_deep(mv: &Move) -> bool
-    ensures { IsTrue result ↔ IsDeep mv.now }
-{
-    mv.from.h < 0 || mv.to.h < 0
-}
-
-/// The place of the first end that is below the surface; of the last end where none is.
-fn first_deep_place(mv: &Move) -> Point
-    ensures { result ≡ first_deep mv.now }
-{
-    if mv.from.h < 0 { mv.from.at } else { mv.to.at }
 }

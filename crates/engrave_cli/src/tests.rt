@@ -2,10 +2,10 @@
 // depths, and devices that fail; and how segments meet, of plane_exact.
 ghost use Rattle.std.specs.Prelude.{◌≤◌};
 
+use depth_rule::greatest_depth_by_steps;
 use engrave_core::{Outcome, engrave, status};
-use engrave_model::{MOST_DEPTH, greatest_depth_by_steps};
 use loops_text::read_loops;
-use plane_exact::{Bit, Meet, Point, Seg, cross_kind};
+use plane_exact::{Bit, MOST_DEPTH, Meet, Point, Seg, cross_kind};
 use shop_port::{HostDepot, MemDepot, MemSink, SureDepot, SureSink};
 use std::alloc::Global;
 use std::collections::BTreeMap;

@@ -1,30 +1,15 @@
 -- When a move is called clear: not too deep, not slant, three whole-number tests against each edge, and its first end below
 -- the surface inside.
-use Rattle.std.specs.Prelude.{◌≢◌, ℕ, suc, ◌*◌, ◌<◌, ◌⊎◌, ℤ, pos, negsuc, ◌+ℤ◌, ◌-ℤ◌, ◌*ℤ◌, ◌≤ℤ◌, ◌<ℤ◌, List, All, if◌then◌else◌, nat_lt}
+use Rattle.std.specs.Prelude.{◌≢◌, ◌⊎◌, ℤ, pos, ◌+ℤ◌, ◌-ℤ◌, ◌*ℤ◌, ◌≤ℤ◌, ◌<ℤ◌, List, All}
 use Rattle.plane_exact.specs.Cone.{Cone}
 use Rattle.plane_exact.specs.Distance.{square}
+use Rattle.plane_exact.specs.Moves.{IsDeep, IsTooDeep, depth_of, first_deep}
 use Rattle.plane_exact.specs.Plane.{GridPoint, rational}
 use Rattle.plane_exact.specs.Product.{cross_of}
 use Rattle.plane_exact.specs.declared.moves.Move.{Move}
 use Rattle.plane_exact.specs.declared.point.Seg.{Seg}
 use Rattle.engrave_model.specs.Depth.{IsEdgeClear}
 use Rattle.engrave_model.specs.Inside.{IsInside}
-
--- how deep a height is below the surface: 0 from the surface up
-abbrev pub depth_of : ℤ → ℕ
-depth_of (pos n) = 0
-depth_of (negsuc n) = suc n
-
--- one of the ends is below the surface
-abbrev pub IsDeep : Move → Type 0
-IsDeep mv = (0 < depth_of mv.from.h) ⊎ (0 < depth_of mv.to.h)
-
--- at the depth the bit is wider than its greatest radius
-abbrev pub IsTooWide : Cone → ℕ → Type 0
-IsTooWide cone z = cone.sd * cone.rmax < cone.sn * z
-
-abbrev pub IsTooDeep : Cone → Move → Type 0
-IsTooDeep cone mv = IsTooWide cone (depth_of mv.from.h) ⊎ IsTooWide cone (depth_of mv.to.h)
 
 -- one of the heights is above the surface, and the other below it
 abbrev pub ArePartedBySurface : ℤ → ℤ → Type 0
@@ -90,10 +75,6 @@ pub record PassesEdge (cone : Cone) (mv : Move) (e : Seg) : Type 0 where
   pub corner_a : IsNowhereNegative (corner_margin cone mv e.a)
   pub corner_b : IsNowhereNegative (corner_margin cone mv e.b)
   pub apart : ¬ IsCrossing mv e
-
--- the place of the first end that is below the surface
-abbrev pub first_deep : Move → GridPoint
-first_deep mv = if nat_lt 0 (depth_of mv.from.h) then mv.from.at else mv.to.at
 
 -- neither too deep nor slant, every edge passed, and the first deep end inside
 pub record IsClearDeep (edges : List Seg) (cone : Cone) (mv : Move) : Type 0 where

@@ -2,6 +2,7 @@
 use Rattle.std.specs.Prelude.{◌≢◌, ℕ, ◌≤◌, List, [], ◌∷◌, length, All, sum_by, flat_map}
 use Rattle.plane_exact.specs.Plane.{GridPoint}
 use Rattle.plane_exact.specs.declared.point.Seg.{Seg}
+use Rattle.engrave_model.specs.declared.TheConstants.{MOST_EDGES}
 
 -- the edges along the points, and at the last point the one that leads back to the first
 abbrev pub edges_back_to : GridPoint → List GridPoint → List Seg
@@ -25,7 +26,7 @@ pub record IsLoop (points : List GridPoint) : Type 0 where
 
 -- a drawing has at most 131,072 edges, that is, points
 abbrev pub most_edges : ℕ
-most_edges = 131072
+most_edges = MOST_EDGES
 
 pub record IsDrawing (loops : List (List GridPoint)) : Type 0 where
   pub each : All IsLoop loops

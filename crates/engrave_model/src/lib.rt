@@ -1,13 +1,8 @@
 //! What a reader must believe of the geometry: the definitions of drawing, inside, disc, greatest depth, removal and clear
-//! moves, and the plain program of the greatest depth.
+//! moves.
 //!
-//! The definitions stand in `specs/`. `greatest_depth_by_steps` computes the greatest depth as they say it.
+//! It has no code. Its promise is that the definitions of `specs/` say what they mean.
 #![tactic(auto)]
 
-mod depth;
-mod inside;
-
-pub use depth::{
-    MOST_DEPTH, depth_of_height, greatest_depth_by_steps, is_disc_clear, is_edge_clear,
-};
-pub use inside::is_inside;
+/// A drawing has at most so many edges, that is, points.
+pub const MOST_EDGES: u32 = 131_072;

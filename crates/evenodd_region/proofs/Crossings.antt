@@ -7,7 +7,7 @@ use Rattle.integer_algebra.proofs.Ring.{ring, V, K, M, ◌⊕◌, ◌⊖◌, ◌
 use Rattle.integer_algebra.proofs.Order.{cancel_lt, times_nonneg, times_pos, sign_of_pos, sign_of_nonpos}
 use Rattle.plane_exact.specs.Plane.{GridPoint, RationalPoint}
 use Rattle.engrave_model.specs.Inside.{is_at_or_below, passes_row, crosses_right_of, is_counted}
-use Rattle.engrave_model.proofs.Counting.{same_lt}
+use Rattle.evenodd_region.proofs.Counting.{same_lt}
 use Rattle.evenodd_region.specs.Parity.{exactly_one, is_in_rows, is_right_of_line, is_right_of_path}
 use Rattle.evenodd_region.proofs.Levels.{IsLevel, path_turned, edge_turned}
 

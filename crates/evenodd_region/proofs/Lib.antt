@@ -1,4 +1,5 @@
 -- The lemmas of the crate.
+pub mod Counting
 pub mod Levels
 pub mod Crossings
 pub mod OneEdge

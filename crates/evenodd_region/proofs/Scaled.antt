@@ -9,7 +9,7 @@ use Rattle.plane_exact.specs.Plane.{GridPoint, RationalPoint, IsBetween, rationa
 use Rattle.plane_exact.specs.Product.{cross_of, dot_of}
 use Rattle.plane_exact.proofs.Collinear.{on_segment, on_line, between_ends}
 use Rattle.engrave_model.specs.Inside.{is_at_or_below, is_counted}
-use Rattle.engrave_model.proofs.Counting.{same_lt}
+use Rattle.evenodd_region.proofs.Counting.{same_lt}
 use Rattle.evenodd_region.specs.Ratios.{turn, facing}
 
 -- ---- a point of the edge: all coordinates times the denominator, it is a grid point

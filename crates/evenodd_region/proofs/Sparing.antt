@@ -11,7 +11,8 @@ use Rattle.plane_exact.specs.Cone.{Cone}
 use Rattle.plane_exact.specs.Plane.{GridPoint, RationalPoint}
 use Rattle.plane_exact.specs.declared.moves.Move.{Move}
 use Rattle.plane_exact.specs.declared.point.Seg.{Seg}
-use Rattle.engrave_model.specs.Clear.{depth_of, IsDeep, IsClear, PassesEdge}
+use Rattle.plane_exact.specs.Moves.{depth_of, IsDeep}
+use Rattle.engrave_model.specs.Clear.{IsClear, PassesEdge}
 use Rattle.engrave_model.specs.Drawing.{edges_of}
 use Rattle.engrave_model.specs.Inside.{IsInside}
 use Rattle.engrave_model.specs.Removal.{Moment, place_at, depth_at, IsRemoved, RemovesNone, IsSafe}

@@ -7,7 +7,7 @@ use Rattle.integer_algebra.proofs.Ring.{ring, V, K, M, ◌⊕◌, ◌⊖◌, ◌
 use Rattle.integer_algebra.proofs.Order.{mix, mix_nonneg, times_nonneg, times_pos}
 use Rattle.plane_exact.specs.Plane.{Fraction, GridPoint, RationalPoint, rational}
 use Rattle.plane_exact.specs.declared.moves.Move.{Move}
-use Rattle.engrave_model.specs.Clear.{depth_of, IsDeep, first_deep}
+use Rattle.plane_exact.specs.Moves.{depth_of, IsDeep, first_deep}
 use Rattle.engrave_model.specs.Removal.{Moment, between, place_at, depth_at}
 use Rattle.plane_exact.proofs.Fractions.{first, last}
 use Rattle.evenodd_region.specs.Parity.{IsOnPath}

@@ -4,7 +4,7 @@ use Rattle.plane_exact.specs.Cone.{Cone}
 use Rattle.plane_exact.specs.Plane.{GridPoint, rational}
 use Rattle.plane_exact.specs.declared.moves.Move.{Move}
 use Rattle.plane_exact.specs.declared.point.Seg.{Seg}
-use Rattle.engrave_model.specs.Clear.{IsDeep, first_deep}
+use Rattle.plane_exact.specs.Moves.{IsDeep, first_deep}
 use Rattle.engrave_model.specs.Drawing.{edges_of}
 use Rattle.engrave_model.specs.Inside.{IsInside}
 use Rattle.engrave_model.specs.Removal.{RemovesNone, IsSafe}

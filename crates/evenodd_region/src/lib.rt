@@ -4,6 +4,7 @@
 //! along a path that meets no edge, inside doesn't change.
 #![tactic(auto)]
 
+mod grid;
 pub mod law;
 mod ratio;
 mod rows;
@@ -11,4 +12,5 @@ mod sides;
 #[cfg(test)]
 mod tests;
 
+pub use grid::is_inside;
 pub use rows::{Rows, inside, inside_ratio};

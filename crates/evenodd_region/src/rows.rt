@@ -6,9 +6,9 @@ ghost use Rattle.engrave_model.specs.Inside.{IsInside, IsOnOutline, is_counted};
 ghost use Rattle.evenodd_region.specs.Lookup.{AreRowsOf, IsPointOf, IsRatio};
 ghost use Rattle.evenodd_region.specs.Ratios.{rational_of};
 
+use crate::grid::is_inside;
 use crate::ratio::RatioPoint;
 use crate::sides::{is_edge_counted, is_on_edge};
-use engrave_model::is_inside;
 use loops_text::Drawing;
 use plane_exact::{Point, Seg};
 use std::alloc::{AllocError, Global};

@@ -4,7 +4,8 @@ use Rattle.plane_exact.specs.Cone.{Cone}
 use Rattle.plane_exact.specs.declared.moves.LineMove.{LineMove}
 use Rattle.plane_exact.specs.declared.moves.Move.{Move}
 use Rattle.plane_exact.specs.declared.point.Seg.{Seg}
-use Rattle.engrave_model.specs.Clear.{IsClear, IsDeep, IsSlant, IsTooDeep}
+use Rattle.plane_exact.specs.Moves.{IsDeep, IsTooDeep}
+use Rattle.engrave_model.specs.Clear.{IsClear, IsSlant}
 use Rattle.depth_rule.specs.Met.{IsFirstMet, IsOutside}
 use Rattle.gouge_checker.specs.declared.verdict.Verdict.{Verdict}
 use Rattle.gouge_checker.specs.declared.verdict.Verdict.TheVariants.{Clear, TooDeep, Slant, Gouge, Outside}

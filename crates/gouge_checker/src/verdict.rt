@@ -1,14 +1,11 @@
 // The verdict on the moves of a code.
-ghost use Rattle.std.specs.Prelude.{◌≡◌, ◌≢◌, ◌↔◌, IsTrue};
-ghost use Rattle.engrave_model.specs.Clear.{IsSlant, IsTooDeep, ArePartedBySurface, IsTooWide, depth_of};
+ghost use Rattle.std.specs.Prelude.{◌≡◌};
 ghost use Rattle.engrave_model.specs.Drawing.{edges_of};
-ghost use Rattle.plane_exact.specs.Heights.{IsHeight};
 ghost use Rattle.engrave_model.specs.Removal.{IsSafeCode};
 ghost use Rattle.gouge_checker.specs.Verdict.{IsVerdict, IsVerdictOfMove};
 
-use depth_rule::{Met, Scene, first_met, is_deep};
-use engrave_model::depth_of_height;
-use plane_exact::{Bit, LineMove, Move, Point};
+use depth_rule::{Met, Scene, first_met, is_slant};
+use plane_exact::{Bit, LineMove};
 
 /// What `check` says of code: `line` counts from 1, `edge` from 0.
 #[derive(Clone, Copy, Debug, PartialEq, Eq)]
@@ -52,9 +49,9 @@ fn judge(scene: &Scene, bit: &Bit, line_move: &LineMove) -> Verdict
 {
     let line = line_move.line;
     let mv = &line_move.mv;
-    if !is_deep(mv) {
+    if !mv.is_deep() {
         Verdict::Clear
-    } else if is_too_deep(bit, mv) {
+    } else if mv.is_too_deep(bit) {
         Verdict::TooDeep { line }
     } else if is_slant(mv) {
         Verdict::Slant { line }
@@ -65,39 +62,4 @@ fn judge(scene: &Scene, bit: &Bit, line_move: &LineMove) -> Verdict
             Met::Nothing => Verdict::Clear,
         }
     }
-}
-
-/// Whether the bit would be wider than its greatest radius at an end of the move.
-fn is_too_deep(bit: &Bit, mv: &Move) -> bool
-    ensures { IsTrue result ↔ IsTooDeep bit.now mv.now }
-{
-    is_too_wide(bit, mv.from.h) || is_too_wide(bit, mv.to.h)
-}
-
-/// Whether the bit would be wider than its greatest radius at the height.
-fn is_too_wide(bit: &Bit, h: i32) -> bool
-    requires { IsHeight h }
-    ensures { IsTrue result ↔ IsTooWide bit.now (depth_of h) }
-{
-    bit.sd() * bit.rmax() < bit.sn() * depth_of_height(h)
-}
-
-/// Whether the move passes through the surface sideways.
-fn is_slant(mv: &Move) -> bool
-    ensures { IsTrue result ↔ IsSlant mv.now }
-{
-    are_parted(mv.from.h, mv.to.h) && are_different(mv.from.at, mv.to.at)
-}
-
-fn are_different(p: Point, q: Point) -> bool
-    ensures { IsTrue result ↔ (p ≢ q) }
-{
-    p != q
-}
-
-/// Whether one height is above the surface and the other below it.
-fn are_parted(h: i32, k: i32) -> bool
-    ensures { IsTrue result ↔ ArePartedBySurface h k }
-{
-    (h > 0 && k < 0) || (h < 0 && k > 0)
 }

@@ -4,12 +4,10 @@ ghost use Rattle.std.specs.List.{list_any, slice_get};
 ghost use Rattle.engrave_model.specs.Drawing.{IsDrawing, edges_of, edges_of_loop};
 ghost use Rattle.loops_text.specs.Edges.{loop_number, push_fault, same_point};
 
+use engrave_model::MOST_EDGES;
 use plane_exact::{Point, Seg};
 use std::alloc::{AllocError, Global};
 use std::marker::Model;
-
-/// The most edges of a drawing, which are as many as its points.
-pub const MOST_EDGES: u32 = 131_072;
 
 /// Why a loop can't be added to a drawing, or memory ran out.
 #[derive(Clone, Copy, Debug, PartialEq, Eq)]

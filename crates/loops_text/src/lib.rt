@@ -10,6 +10,6 @@ mod reader;
 #[cfg(test)]
 mod tests;
 
-pub use drawing::{Drawing, MOST_EDGES, PushFault};
+pub use drawing::{Drawing, PushFault};
 pub use fault::{LoopsFault, LoopsKind};
 pub use reader::{MOST_DRAWING_BYTES, read_loops};

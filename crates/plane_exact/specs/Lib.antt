@@ -3,5 +3,6 @@ pub mod Cone
 pub mod Distance
 pub mod Heights
 pub mod Meet
+pub mod Moves
 pub mod Plane
 pub mod Product

@@ -8,7 +8,8 @@ use Rattle.plane_exact.specs.Distance.{square}
 use Rattle.plane_exact.specs.Plane.{GridPoint, RationalPoint, IsBetween}
 use Rattle.plane_exact.specs.declared.moves.Move.{Move}
 use Rattle.plane_exact.specs.declared.point.Seg.{Seg}
-use Rattle.engrave_model.specs.Clear.{Quadratic, corner_margin, depth_of, IsNowhereNegative}
+use Rattle.plane_exact.specs.Moves.{depth_of}
+use Rattle.engrave_model.specs.Clear.{Quadratic, corner_margin, IsNowhereNegative}
 use Rattle.engrave_model.specs.Depth.{IsEdgeClear}
 use Rattle.swept_move.proofs.Quadratic.{value_at, nowhere_negative}
 use Rattle.swept_move.proofs.Hits.{IsNear, deep}

@@ -9,7 +9,8 @@ use Rattle.plane_exact.specs.Distance.{square}
 use Rattle.plane_exact.specs.Plane.{GridPoint}
 use Rattle.plane_exact.specs.declared.moves.Move.{Move}
 use Rattle.plane_exact.specs.declared.point.Seg.{Seg}
-use Rattle.engrave_model.specs.Clear.{Quadratic, corner_margin, depth_of, IsNowhereNegative, IsTooDeep, IsCrossing, PassesEdge}
+use Rattle.plane_exact.specs.Moves.{depth_of, IsTooDeep}
+use Rattle.engrave_model.specs.Clear.{Quadratic, corner_margin, IsNowhereNegative, IsCrossing, PassesEdge}
 use Rattle.engrave_model.specs.Depth.{IsEdgeClear}
 use Rattle.swept_move.proofs.Quadratic.{KeepsAbove, start_above, finish_above, no_dip}
 use Rattle.swept_move.proofs.Hits.{Pass, away, deep}

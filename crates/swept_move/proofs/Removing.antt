@@ -8,7 +8,7 @@ use Rattle.plane_exact.specs.Distance.{square}
 use Rattle.plane_exact.specs.Plane.{RationalPoint, IsBetween}
 use Rattle.plane_exact.specs.declared.moves.Move.{Move}
 use Rattle.plane_exact.specs.declared.point.Seg.{Seg}
-use Rattle.engrave_model.specs.Clear.{depth_of}
+use Rattle.plane_exact.specs.Moves.{depth_of}
 use Rattle.engrave_model.specs.Removal.{Moment, IsRemoved, depth_at}
 use Rattle.swept_move.proofs.Hits.{IsNear, away, deep, near_deeper}
 

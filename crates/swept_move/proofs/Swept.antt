@@ -9,7 +9,8 @@ use Rattle.plane_exact.specs.Cone.{Cone}
 use Rattle.plane_exact.specs.Distance.{square}
 use Rattle.plane_exact.specs.declared.moves.Move.{Move}
 use Rattle.plane_exact.specs.declared.point.Seg.{Seg}
-use Rattle.engrave_model.specs.Clear.{depth_of, PassesEdge, IsCrossing}
+use Rattle.plane_exact.specs.Moves.{depth_of}
+use Rattle.engrave_model.specs.Clear.{PassesEdge, IsCrossing}
 use Rattle.swept_move.specs.Law.{SweptLaw}
 use Rattle.swept_move.proofs.Hits.{Pass, IsHit, away}
 use Rattle.swept_move.proofs.Leaving.{IsPlace, IsGuarded, no_hit}

@@ -1,7 +1,8 @@
 // Edges that lie wholly beside a move: no disc of it reaches them, as the boxes of path and edge show.
 ghost use Rattle.std.specs.Prelude.{◌↔◌, ◌≤◌, pos, IsTrue};
 ghost use Rattle.plane_exact.specs.Plane.{IsCoordinate};
-ghost use Rattle.engrave_model.specs.Clear.{IsTooDeep, PassesEdge};
+ghost use Rattle.plane_exact.specs.Moves.{IsTooDeep};
+ghost use Rattle.engrave_model.specs.Clear.{PassesEdge};
 ghost use Rattle.swept_move.specs.Beside.{AreApart, IsBeside, IsSpan};
 
 use crate::tip::point;

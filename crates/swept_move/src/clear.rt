@@ -1,12 +1,13 @@
 // Whether a straight move keeps off an edge, by whole-number tests of the ends of both.
 ghost use Rattle.std.specs.Prelude.{◌↔◌, ◌*ℤ◌, ◌<ℤ◌, pos, IsTrue};
-ghost use Rattle.engrave_model.specs.Clear.{ArePartedByLine, IsCrossing, IsNowhereNegative, IsSlant, IsTooDeep, PassesEdge, corner_margin, depth_of};
+ghost use Rattle.plane_exact.specs.Moves.{IsTooDeep, depth_of};
+ghost use Rattle.engrave_model.specs.Clear.{ArePartedByLine, IsCrossing, IsNowhereNegative, IsSlant, PassesEdge, corner_margin};
 ghost use Rattle.engrave_model.specs.Depth.{IsEdgeClear};
 
 use crate::beside::is_beside;
+use crate::disc::is_edge_clear;
 use crate::margin::margin_at;
-use crate::tip::{depth, point};
-use engrave_model::is_edge_clear;
+use crate::tip::point;
 use plane_exact::{Bit, Move, Point, Seg, cross};
 
 /// Whether the move passes the tests against the edge: no disc at its ends holds a point of the edge, no disc on its way
@@ -30,8 +31,8 @@ fn passes_tests(mv: &Move, bit: &Bit, edge: &Seg) -> bool
 fn are_ends_clear(mv: &Move, bit: &Bit, edge: &Seg) -> bool
     ensures { IsTrue result ↔ (IsEdgeClear bit.now mv.now.from.at (depth_of mv.now.from.h) edge.now × IsEdgeClear bit.now mv.now.to.at (depth_of mv.now.to.h) edge.now) }
 {
-    is_edge_clear(*edge, point(&mv.from), bit, depth(&mv.from))
-        && is_edge_clear(*edge, point(&mv.to), bit, depth(&mv.to))
+    is_edge_clear(*edge, point(&mv.from), bit, mv.from.depth())
+        && is_edge_clear(*edge, point(&mv.to), bit, mv.to.depth())
 }
 
 // Whether no disc of the move holds an end of the edge.

@@ -6,8 +6,10 @@
 
 mod beside;
 mod clear;
+mod disc;
 pub mod law;
 mod margin;
 mod tip;
 
 pub use clear::clear_of;
+pub use disc::is_edge_clear;

@@ -1,9 +1,8 @@
 // Where the tip is, and how deep.
-ghost use Rattle.std.specs.Prelude.{◌≡◌, ◌≤◌, pos, negsuc, ◌-ℤ◌, ◌≤ℤ◌};
-ghost use Rattle.engrave_model.specs.Clear.{depth_of};
+ghost use Rattle.std.specs.Prelude.{◌≡◌, pos, negsuc, ◌-ℤ◌, ◌≤ℤ◌};
+ghost use Rattle.plane_exact.specs.Moves.{depth_of};
 
-use engrave_model::depth_of_height;
-use plane_exact::{Move, Place, Point};
+use plane_exact::{MOST_DEPTH, Move, Place, Point};
 
 // The point that the place is over.
 pub fn point(place: &Place) -> Point
@@ -12,28 +11,20 @@ pub fn point(place: &Place) -> Point
     place.at
 }
 
-// How deep the place is below the surface, in grid units: 0 from the surface up.
-pub fn depth(place: &Place) -> u32
-    ensures value { result ≡ depth_of place.now.h }
-    ensures range { result ≤ 32767 }
-{
-    depth_of_height(place.h)
-}
-
-// The same as a signed number.
+// How deep the place is below the surface, as a signed number.
 pub fn signed_depth(place: &Place) -> i64
     ensures value { result ≡ pos (depth_of place.now.h) }
     ensures low { pos 0 ≤ℤ result }
-    ensures high { result ≤ℤ pos 32767 }
+    ensures high { result ≤ℤ pos MOST_DEPTH }
 {
-    depth(place) as i64
+    place.depth() as i64
 }
 
 // How much deeper the move's finish is than its start: below 0 where it rises.
 pub fn descent(mv: &Move) -> i64
     ensures value { result ≡ pos (depth_of mv.now.to.h) -ℤ pos (depth_of mv.now.from.h) }
     ensures low { negsuc 32766 ≤ℤ result }
-    ensures high { result ≤ℤ pos 32767 }
+    ensures high { result ≤ℤ pos MOST_DEPTH }
 {
     signed_depth(&mv.to) - signed_depth(&mv.from)
 }

@@ -1,6 +1,6 @@
 -- Answers the goals of `is_edge_clear`.
 use Rattle.engrave_model.proofs.Discs.{edge_clear}
-use Rattle.engrave_model.proofs.depth.is_edge_clear.Goals as goal
+use Rattle.swept_move.proofs.disc.is_edge_clear.Goals as goal
 
 pub returns : goal.returns
 returns c =

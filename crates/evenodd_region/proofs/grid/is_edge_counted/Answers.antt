@@ -1,7 +1,7 @@
 -- Answers the goals of `is_edge_counted`.
 use Rattle.std.proofs.Common.{sym, ◌∙◌}
-use Rattle.engrave_model.proofs.Counting.{rising, falling, beside_row}
-use Rattle.engrave_model.proofs.inside.is_edge_counted.Goals as goal
+use Rattle.evenodd_region.proofs.Counting.{rising, falling, beside_row}
+use Rattle.evenodd_region.proofs.grid.is_edge_counted.Goals as goal
 
 pub returns-in-true-false : goal.returns-in-true-false
 returns-in-true-false c =

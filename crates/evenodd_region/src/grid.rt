@@ -6,37 +6,37 @@ ghost use Rattle.engrave_model.specs.Inside.{IsOnOutline, IsInside, is_counted};
 
 use plane_exact::{Point, Seg, cross, passes_through};
 
-/// Whether the point lies on an edge.
-pub fn is_on_outline(edges: &[Seg], p: Point) -> bool
+// Whether the point lies on an edge.
+fn is_on_outline(edges: &[Seg], p: Point) -> bool
     ensures { IsTrue result ↔ IsOnOutline edges.now (rational p) }
 {
     edges.iter().any(|e| passes_through(*e, p))
 }
 
-/// Whether `p` isn't above the row of `w`.
+// Whether `p` isn't above the row of `w`.
 fn is_at_or_below(p: Point, w: Point) -> bool
     ensures { result ≡ int_le p.y w.y }
 {
     p.y() <= w.y()
 }
 
-/// Whether `p` lies strictly to the left of the line from `a` through `b`.
+// Whether `p` lies strictly to the left of the line from `a` through `b`.
 fn is_left_of(a: Point, b: Point, p: Point) -> bool
     ensures { result ≡ int_lt (pos 0) (cross_of a b p) }
 {
     cross(a, b, p) > 0
 }
 
-/// Whether `p` lies strictly to the right of the line from `a` through `b`.
+// Whether `p` lies strictly to the right of the line from `a` through `b`.
 fn is_right_of(a: Point, b: Point, p: Point) -> bool
     ensures { result ≡ int_lt (cross_of a b p) (pos 0) }
 {
     cross(a, b, p) < 0
 }
 
-/// Whether the edge passes the row of the point strictly to the right of it. An edge passes a row where exactly one of
-/// its ends isn't above it.
-pub fn is_edge_counted(p: Point, e: Seg) -> bool
+// Whether the edge passes the row of the point strictly to the right of it. An edge passes a row where exactly one of its
+// ends isn't above it.
+fn is_edge_counted(p: Point, e: Seg) -> bool
     ensures { result ≡ is_counted (rational p) e }
 {
     match (is_at_or_below(e.a, p), is_at_or_below(e.b, p)) {
@@ -46,7 +46,7 @@ pub fn is_edge_counted(p: Point, e: Seg) -> bool
     }
 }
 
-/// Whether an odd number of edges is counted at the point.
+// Whether an odd number of edges is counted at the point.
 fn is_count_odd(edges: &[Seg], p: Point) -> bool
     ensures { IsTrue result ↔ (count_by (is_counted (rational p)) edges.now % 2 ≡ 1) }
 {
