@@ -1,6 +1,6 @@
 -- A drawing: closed loops of grid points, and their edges in order.
 use Rattle.std.specs.Prelude.{◌≢◌, ℕ, ◌≤◌, List, [], ◌∷◌, length, All, sum_by, flat_map}
-use Rattle.plane_exact.specs.Plane.{GridPoint}
+use Rattle.plane_exact.specs.Plane.{GridPoint, IsOnGrid}
 use Rattle.plane_exact.specs.declared.point.Seg.{Seg}
 use Rattle.engrave_model.specs.declared.TheConstants.{MOST_EDGES}
 
@@ -28,6 +28,12 @@ pub record IsLoop (points : List GridPoint) : Type 0 where
 abbrev pub most_edges : ℕ
 most_edges = MOST_EDGES
 
+-- the points are on the grid
+abbrev pub AreOnGrid : List GridPoint → Type 0
+AreOnGrid points = All (λ p. IsOnGrid p.x p.y) points
+
+-- a drawing: loops of points on the grid, not too many
 pub record IsDrawing (loops : List (List GridPoint)) : Type 0 where
   pub each : All IsLoop loops
   pub few : sum_by length loops ≤ most_edges
+  pub on_grid : All AreOnGrid loops

@@ -10,7 +10,7 @@ use Rattle.std.proofs.lemmas.Bool.Decides.{Decides-int_eq}
 use Rattle.std.proofs.lemmas.Bool.{cases_lt, le-ltb, lt-ltb, ltb-false, or_parts, and_from, both_ways}
 use Rattle.plane_exact.specs.Plane.{GridPoint}
 use Rattle.plane_exact.specs.declared.point.Seg.{Seg}
-use Rattle.engrave_model.specs.Drawing.{IsDrawing, IsLoop, edges_back_to, edges_of, edges_of_loop, most_edges}
+use Rattle.engrave_model.specs.Drawing.{AreOnGrid, IsDrawing, IsLoop, edges_back_to, edges_of, edges_of_loop, most_edges}
 use Rattle.loops_text.specs.declared.drawing.PushFault.TheVariants.{TooMany}
 use Rattle.loops_text.specs.Edges.{loop_number, push_fault, same_point}
 use Rattle.loops_text.specs.Kept.{IsKept, numbers_from}
@@ -101,11 +101,11 @@ IsFree-from_push_fault loops points none =
 abbrev replicate_after : List (List GridPoint) → List GridPoint → ℕ → List ℕ
 replicate_after loops points number = numbers_from 0 loops ++ replicate (length points) number
 
-pub IsKept_push : (loops : List (List GridPoint)) (edges : List Seg) (numbers : List ℕ) (points : List GridPoint) → IsKept loops edges numbers → push_fault loops points ≡ None → IsKept (loops ++ points ∷ []) (edges ++ edges_of_loop points) (numbers ++ replicate (length points) (length loops))
-IsKept_push loops edges numbers points is none =
+pub IsKept_push : (loops : List (List GridPoint)) (edges : List Seg) (numbers : List ℕ) (points : List GridPoint) → IsKept loops edges numbers → push_fault loops points ≡ None → AreOnGrid points → IsKept (loops ++ points ∷ []) (edges ++ edges_of_loop points) (numbers ++ replicate (length points) (length loops))
+IsKept_push loops edges numbers points is none on_grid =
     let free = IsFree-from_push_fault loops points none in
     record {
-      drawing = record { each = All-push IsLoop loops points is.drawing.each free.is_loop; few = omega (arith, sum_by_push length loops points, free.few) };
+      drawing = record { each = All-push IsLoop loops points is.drawing.each free.is_loop; few = omega (arith, sum_by_push length loops points, free.few); on_grid = All-push AreOnGrid loops points is.drawing.on_grid on_grid };
       edges_in_order = ap (λ before. before ++ edges_of_loop points) is.edges_in_order ∙ sym (edges_of_push loops points);
       numbers_in_order = ap (λ before. before ++ replicate (length points) (length loops)) is.numbers_in_order ∙ sym (numbers_from_push 0 loops points ∙ ap (replicate_after loops points) (zero-add (length loops)));
     }
@@ -132,10 +132,10 @@ push_fault-None loops points some distinct few =
     rw (le-ltb (length points) 2 some, distinct, le-ltb most_edges (sum_by length loops + length points) few) refl
 
 -- the vectors of a drawing with one more loop
-pub IsKept_after : {V : Type 0} (items : V → List GridPoint) (vs ws : List V) (v : V) (edges edges' : List Seg) (numbers numbers' : List ℕ) (points : List GridPoint) (number : ℕ) → IsKept (map items vs) edges numbers → push_fault (map items vs) points ≡ None → ws ≡ vs ++ v ∷ [] → items v ≡ points → edges' ≡ edges ++ edges_of_loop points → number ≡ length vs → numbers' ≡ numbers ++ replicate (length points) number → IsKept (map items ws) edges' numbers'
-IsKept_after items vs ws v edges edges' numbers numbers' points number is none loops same edges-is number-is numbers-is =
+pub IsKept_after : {V : Type 0} (items : V → List GridPoint) (vs ws : List V) (v : V) (edges edges' : List Seg) (numbers numbers' : List ℕ) (points : List GridPoint) (number : ℕ) → IsKept (map items vs) edges numbers → push_fault (map items vs) points ≡ None → AreOnGrid points → ws ≡ vs ++ v ∷ [] → items v ≡ points → edges' ≡ edges ++ edges_of_loop points → number ≡ length vs → numbers' ≡ numbers ++ replicate (length points) number → IsKept (map items ws) edges' numbers'
+IsKept_after items vs ws v edges edges' numbers numbers' points number is none on_grid loops same edges-is number-is numbers-is =
     let loops-is : map items ws ≡ map items vs ++ points ∷ [] = ap (map items) loops ∙ map_push items vs v ∙ ap (λ p. map items vs ++ p ∷ []) same in
     let counted : number ≡ length (map items vs) = rw length-map number-is in
     let all_numbers : numbers' ≡ numbers ++ replicate (length points) (length (map items vs)) = numbers-is ∙ ap (λ n. numbers ++ replicate (length points) n) counted in
-    let kept = IsKept_push (map items vs) edges numbers points is none in
+    let kept = IsKept_push (map items vs) edges numbers points is none on_grid in
     rw (loops-is, edges-is, all_numbers) kept

@@ -1,7 +1,8 @@
 // Drawings: closed loops of grid points, kept with their edges in order.
-ghost use Rattle.std.specs.Prelude.{◌≡◌, ◌≢◌, ◌+◌, ◌<◌, ◌≤◌, ◌++◌, ◌∷◌, [], None, Some, MatchResult, OnErr, OnOk, length, replicate, vec_capacity, vec_len};
+ghost use Rattle.std.specs.Prelude.{◌≡◌, ◌≢◌, ◌+◌, ◌<◌, ◌≤◌, ◌++◌, ◌∷◌, [], false, None, Some, MatchResult, OnErr, OnOk, length, replicate, vec_capacity, vec_len};
 ghost use Rattle.std.specs.List.{list_any, slice_get};
-ghost use Rattle.engrave_model.specs.Drawing.{IsDrawing, edges_of, edges_of_loop};
+ghost use Rattle.plane_exact.specs.Plane.{IsOnGrid};
+ghost use Rattle.engrave_model.specs.Drawing.{AreOnGrid, IsDrawing, edges_of, edges_of_loop};
 ghost use Rattle.loops_text.specs.Edges.{loop_number, push_fault, same_point};
 
 use engrave_model::MOST_EDGES;
@@ -99,7 +100,8 @@ impl Drawing {
     /// The points of the loop with this number.
     pub fn points(&self, i: u32) -> &[Point]
         requires { i < length self.now }
-        ensures { slice_get self.now i ≡ Some result.now }
+        ensures points { slice_get self.now i ≡ Some result.now }
+        ensures drawing { IsDrawing self.now }
     {
         &self.loops[i as usize]
     }
@@ -116,7 +118,8 @@ impl Drawing {
     /// The edge with this number.
     pub fn edge(&self, e: u32) -> Seg
         requires { e < length (edges_of self.now) }
-        ensures { slice_get (edges_of self.now) e ≡ Some result }
+        ensures edge { slice_get (edges_of self.now) e ≡ Some result }
+        ensures drawing { IsDrawing self.now }
     {
         self.edges[e as usize]
     }
@@ -139,7 +142,8 @@ impl Drawing {
 
     // The first rule that the drawing would break with this loop at its end.
     fn fault_of(&self, points: &[Point]) -> Option<PushFault>
-        ensures { result ≡ push_fault self.now points.now }
+        ensures value { result ≡ push_fault self.now points.now }
+        ensures on_grid { result ≡ None → AreOnGrid points.now }
     {
         if points.len() < 2 {
             Some(PushFault::Short)
@@ -155,7 +159,8 @@ impl Drawing {
 
 // Whether an edge of the loop begins and ends at one point.
 fn repeats_a_point(points: &[Point]) -> bool
-    ensures { result ≡ list_any (λ e. same_point e.a e.b) (edges_of_loop points.now) }
+    ensures on_grid { result ≡ false → AreOnGrid points.now }
+    ensures value { result ≡ list_any (λ e. same_point e.a e.b) (edges_of_loop points.now) }
 {
     let Some((first, rest)) = points.split_first() else {
         return false;
@@ -171,9 +176,10 @@ fn repeats_a_point(points: &[Point]) -> bool
 }
 
 pub(crate) fn is_same_point(p: Point, q: Point) -> bool
-    ensures { result ≡ same_point p q }
+    ensures value { result ≡ same_point p q }
+    ensures on_grid { IsOnGrid q.x q.y }
 {
-    p == q
+    p.x() == q.x() && p.y() == q.y()
 }
 
 // Appends the loop's edges, for which there is room.
