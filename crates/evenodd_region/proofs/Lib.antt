@@ -4,6 +4,7 @@ pub mod Levels
 pub mod Crossings
 pub mod OneEdge
 pub mod Rounds
+pub mod Bounds
 pub mod Ways
 pub mod Discs
 pub mod Sparing

@@ -1,4 +1,5 @@
 -- The definitions of the crate.
+pub mod Bounds
 pub mod Lookup
 pub mod Parity
 pub mod Ratios

@@ -1,4 +1,5 @@
 // Laws of the even-odd rule. A law is the contract of a function that does nothing.
+ghost use Rattle.evenodd_region.specs.Bounds.{InsideBoxLaw};
 ghost use Rattle.evenodd_region.specs.Parity.{EdgeParityLaw, ParityLaw};
 ghost use Rattle.evenodd_region.specs.SafeMoves.{SparingMoveLaw, SurfaceMoveLaw};
 
@@ -11,6 +12,11 @@ pub fn edge_parity_law()
 /// Along a straight path that meets no edge, all points are inside or none is.
 pub fn parity_law()
     ensures { ParityLaw }
+{}
+
+/// Where all points of a drawing are in a box, each point that is inside is in it too, and on none of its sides.
+pub fn inside_box_law()
+    ensures { InsideBoxLaw }
 {}
 
 /// A move that goes below the surface, removes no point of any edge, and is inside where it is first below the surface,

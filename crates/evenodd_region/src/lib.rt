@@ -1,7 +1,7 @@
 //! Which points a drawing holds, and laws of the even-odd rule.
 //!
 //! Its promise is in the clauses of `inside` and `inside_ratio`, for points of the grid and between them, and the laws of `law`:
-//! along a path that meets no edge, inside doesn't change.
+//! along a path that meets no edge, inside doesn't change; an inside point is strictly within the bounds of the drawing's points.
 #![tactic(auto)]
 
 mod grid;
