@@ -4,13 +4,17 @@
 //! edge is the first against which the tests of a move fail, and `law::clear_move_law`, that a clear move is safe.
 #![tactic(auto)]
 
+mod bounds;
 mod clear;
 mod depth;
 pub mod law;
 mod met;
 mod scene;
 mod steps;
+#[cfg(test)]
+mod tests;
 
+pub use bounds::Bounds;
 pub use clear::{is_clear, is_slant};
 pub use depth::greatest_depth;
 pub use met::{Met, first_met};

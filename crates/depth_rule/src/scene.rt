@@ -1,4 +1,5 @@
 // A drawing made ready to be asked: which points it holds, and its edges by number.
+use crate::bounds::{Bounds, bounds_of_starts};
 use evenodd_region::{Rows, inside, inside_ratio};
 use loops_text::Drawing;
 use plane_exact::Point;
@@ -25,10 +26,11 @@ impl Model for Scene {
 }
 
 impl Scene {
-    ghost use Rattle.std.specs.Prelude.{◌≡◌, ◌↔◌, IfOk, IsTrue};
+    ghost use Rattle.std.specs.Prelude.{◌≡◌, ◌↔◌, [], IfOk, IsTrue, MatchOption};
     ghost use Rattle.plane_exact.specs.Plane.{RationalPoint, rational};
     ghost use Rattle.engrave_model.specs.Drawing.{edges_of};
     ghost use Rattle.engrave_model.specs.Inside.{IsInside};
+    ghost use Rattle.evenodd_region.specs.Bounds.{IsBoxOf, points_of};
     ghost use Rattle.evenodd_region.specs.Lookup.{IsPointOf, IsRatio};
 
     /// The scene of a drawing. It may answer that memory ran out.
@@ -44,6 +46,13 @@ impl Scene {
         ensures { result.now ≡ self.now }
     {
         &self.drawing
+    }
+
+    /// The least box that holds all points of the drawing, or None where it has none.
+    pub fn bounds(&self) -> Option<Bounds>
+        ensures { MatchOption result (points_of self.now ≡ []) (λ b. IsBoxOf (points_of self.now) b.low b.high) }
+    {
+        bounds_of_starts(self.drawing.all_edges())
     }
 
     /// Whether the drawing holds the grid point.

@@ -14,10 +14,10 @@ use Rattle.plane_exact.specs.Plane.{GridPoint, RationalPoint, IsBetween, rationa
 use Rattle.plane_exact.specs.declared.point.Seg.{Seg}
 use Rattle.engrave_model.specs.Drawing.{edges_back_to, edges_of_loop, edges_of}
 use Rattle.engrave_model.specs.Inside.{IsInside, is_counted}
-use Rattle.evenodd_region.specs.Bounds.{IsInBox, InsideBoxLaw}
+use Rattle.evenodd_region.specs.Bounds.{IsInBox, InsideBoxLaw, points_of}
 use Rattle.evenodd_region.specs.Parity.{IsOnPath, IsPathFree}
 use Rattle.evenodd_region.proofs.Counting.{beside_row}
-use Rattle.evenodd_region.proofs.Rounds.{parity}
+use Rattle.evenodd_region.proofs.Rounds.{parity, split}
 
 -- ---- the ends of the edges are points of the loops
 
@@ -40,10 +40,11 @@ module _ (low high : GridPoint) where
   of_loop [] all = All-nil HasEndsIn
   of_loop (p ∷ points) all = back_to p (p ∷ points) (All-head In p points all) all
 
-  pub ends_in : (loops : List (List GridPoint)) → All (All In) loops → All HasEndsIn (edges_of loops)
+  pub ends_in : (loops : List (List GridPoint)) → All In (points_of loops) → All HasEndsIn (edges_of loops)
   ends_in [] all = All-nil HasEndsIn
   ends_in (points ∷ loops) all =
-      All-append HasEndsIn (edges_of_loop points) (edges_of loops) (of_loop points (All-head (All In) points loops all)) (ends_in loops (All-tail (All In) points loops all))
+      let parts = split In points (points_of loops) all in
+      All-append HasEndsIn (edges_of_loop points) (edges_of loops) (of_loop points parts.0) (ends_in loops parts.1)
 
 -- ---- how far a point is in a direction
 
@@ -176,7 +177,7 @@ none_counted p (e ∷ edges) all =
 outside_of_rows : (p : GridPoint) (edges : List Seg) → All (HasNoRow p.y) edges → ¬ IsInside edges (rational p)
 outside_of_rows p edges all inside = let none = none_counted p edges all in let odd = inside.odd in absurd (omega arith)
 
-module _ (loops : List (List GridPoint)) (low high : GridPoint) (all : All (All (IsInBox low high)) loops) where
+module _ (loops : List (List GridPoint)) (low high : GridPoint) (all : All (IsInBox low high) (points_of loops)) where
   above : (x : ℤ) → ¬ IsInside (edges_of loops) (rational (record { x = x; y = high.y +ℤ pos 1 }))
   above x = outside_of_rows (record { x = x; y = high.y +ℤ pos 1 }) (edges_of loops)
       (All-weaker (HasEndsIn low high) (HasNoRow (high.y +ℤ pos 1)) (λ e ends.

@@ -46,7 +46,7 @@ same_parity m n even = omega arith
 closed : (m n p : ℕ) → IsAsEven m n p p → (m + n) % 2 ≡ 0
 closed m n p even = omega arith
 
-split : {X : Type 0} (P : X → Type 0) (xs ys : List X) → All P (xs ++ ys) → All P xs × All P ys
+pub split : {X : Type 0} (P : X → Type 0) (xs ys : List X) → All P (xs ++ ys) → All P xs × All P ys
 split P [] ys all = (All-nil P, all)
 split P (x ∷ xs) ys all =
     let rest = split P xs ys (All-tail P x (xs ++ ys) all) in

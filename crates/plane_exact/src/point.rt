@@ -1,5 +1,6 @@
 // Points and segments of the grid.
 ghost use Rattle.std.specs.Prelude.{◌≡◌, ◌↔◌, IsSome, IfSome};
+ghost use Rattle.std.specs.Int.{int_max, int_min};
 ghost use Rattle.plane_exact.specs.Plane.{IsOnGrid};
 
 use std::marker::Model;
@@ -53,6 +54,28 @@ impl Point {
         ensures range { IsOnGrid self.now.x self.now.y }
     {
         self.y
+    }
+
+    /// The lower left corner of the box whose sides the two points lie on.
+    pub fn lower_left(self, other: Point) -> Point
+        ensures across { result.x ≡ int_min self.x other.x }
+        ensures up { result.y ≡ int_min self.y other.y }
+    {
+        Point {
+            x: self.x.min(other.x),
+            y: self.y.min(other.y),
+        }
+    }
+
+    /// The upper right corner of that box.
+    pub fn upper_right(self, other: Point) -> Point
+        ensures across { result.x ≡ int_max self.x other.x }
+        ensures up { result.y ≡ int_max self.y other.y }
+    {
+        Point {
+            x: self.x.max(other.x),
+            y: self.y.max(other.y),
+        }
     }
 }
 

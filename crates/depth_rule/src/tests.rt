@@ -1,0 +1,67 @@
+// A plate and a lug beside it: their bounding box, and moves over them.
+use crate::clear::is_clear;
+use crate::scene::Scene;
+use loops_text::Drawing;
+use plane_exact::{Bit, Move, Place, Point};
+use std::alloc::Global;
+use std::test::Fail;
+
+const PLATE: [(i64, i64); 4] = [(0, 0), (90, 0), (90, 70), (0, 70)];
+
+const LUG: [(i64, i64); 3] = [(95, -20), (99, 10), (91, 10)];
+
+// The plate, and the lug beside it.
+fn plate(alloc: Global) -> Result<Scene, Fail> {
+    let mut drawing = Drawing::empty(alloc);
+    let mut points = Vec::new(alloc);
+    for (x, y) in PLATE {
+        points.push(Point::new(x, y).ok_or("a corner")?)?;
+    }
+    drawing.push_loop(&points).ok().ok_or("the plate")?;
+    let mut points = Vec::new(alloc);
+    for (x, y) in LUG {
+        points.push(Point::new(x, y).ok_or("a corner")?)?;
+    }
+    drawing.push_loop(&points).ok().ok_or("the lug")?;
+    Ok(Scene::new(alloc, drawing)?)
+}
+
+// The place over (x, 35) at the height h.
+fn place(x: i64, h: i32) -> Result<Place, Fail> {
+    let at = Point::new(x, 35).ok_or("a point")?;
+    if -100 <= h && h <= 100 {
+        Ok(Place { at, h })
+    } else {
+        Err(Fail::from("a height"))
+    }
+}
+
+#[test]
+fn bounds_hold_all_loops(rt: HostRuntime) -> Result<(), Fail> {
+    let bounds = plate(rt.alloc())?.bounds().ok_or("bounds")?;
+    assert_eq!(rt; bounds.low, Point::new(0, -20).ok_or("low")?);
+    assert_eq!(rt; bounds.high, Point::new(99, 70).ok_or("high")?);
+    let nothing = Scene::new(rt.alloc(), Drawing::empty(rt.alloc()))?;
+    assert!(rt; nothing.bounds().is_none());
+    Ok(())
+}
+
+#[test]
+fn a_move_is_clear_until_the_bit_touches_an_edge(rt: HostRuntime) -> Result<(), Fail> {
+    let scene = plate(rt.alloc())?;
+    let bit = Bit::new(1, 1, 100).ok_or("bit")?;
+    for (to, h, want) in [
+        (80, -10, true),
+        (81, -10, false),
+        (200, 0, true),
+        (50, -35, true),
+        (50, -36, false),
+    ] {
+        let mv = Move {
+            from: place(40, h)?,
+            to: place(to, h)?,
+        };
+        assert_eq!(rt; is_clear(&scene, &bit, &mv), want, "to {to} at {h}");
+    }
+    Ok(())
+}
