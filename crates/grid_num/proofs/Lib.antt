@@ -3,3 +3,4 @@ pub mod Digits
 pub mod Powers
 pub mod Runs
 pub mod Sides
+pub mod Texts

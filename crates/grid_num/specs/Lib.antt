@@ -3,3 +3,4 @@ pub mod Decimal
 pub mod Judging
 pub mod Units
 pub mod Whole
+pub mod Written

@@ -1,6 +1,7 @@
 //! Numbers of the grid in text: plain decimals, whole numbers, and a job's units.
 //!
-//! Its promise is the one clause of `read_decimal`: the exact number times the scale, or the first fault that applies.
+//! Its promise is the one clause of `read_decimal`: the exact number times the scale, or the first fault that applies; and
+//! the clauses of `write_decimal`: the text of a number, which `read_decimal` gives back.
 #![tactic(auto)]
 
 mod decimal;
@@ -10,7 +11,9 @@ mod split;
 mod tests;
 mod units;
 mod whole;
+mod writer;
 
 pub use decimal::{Decimal, MOST_DIGITS, NumFault, read_decimal};
 pub use units::Units;
 pub use whole::{read_whole, read_whole_pair};
+pub use writer::write_decimal;

@@ -1,5 +1,5 @@
 // Numbers in text, at the scales of the units and at the ends of what is read. The expected answers are written by hand.
-use crate::{NumFault, read_decimal};
+use crate::{NumFault, read_decimal, write_decimal};
 use std::test::Fail;
 
 #[test]
@@ -47,6 +47,33 @@ fn numbers_at_scales(rt: HostRuntime) -> Result<(), Fail> {
             want,
             "{text} at {scale}"
         );
+    }
+    Ok(())
+}
+
+#[test]
+fn numbers_are_written(rt: HostRuntime) -> Result<(), Fail> {
+    let rows: [(i64, u32, &[u8]); 12] = [
+        (-2, 100, b"-0.02"),
+        (0, 100, b"0.00"),
+        (-32_768, 1000, b"-32.768"),
+        (5, 10, b"0.5"),
+        (0, 1, b"0"),
+        (-7, 1, b"-7"),
+        (1005, 1000, b"1.005"),
+        (90_001, 10_000, b"9.0001"),
+        (-10, 10_000, b"-0.0010"),
+        (999, 10, b"99.9"),
+        (i64::MAX, 10_000, b"922337203685477.5807"),
+        (i64::MIN, 1, b"-9223372036854775808"),
+    ];
+    for (value, per_unit, want) in rows {
+        assert!(rt; matches!(per_unit, 1 | 10 | 100 | 1000 | 10_000));
+        let mut text = Vec::from_slice(rt.alloc(), b"X")?;
+        write_decimal(value, per_unit, &mut text)?;
+        let (first, written) = text.as_slice().split_at(1);
+        assert_eq!(rt; first, b"X".as_slice());
+        assert_eq!(rt; written, want, "{value} at {per_unit}");
     }
     Ok(())
 }
