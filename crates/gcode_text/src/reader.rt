@@ -29,10 +29,10 @@ pub fn read_code(alloc: Global, units: Units, code: &[u8]) -> Result<Vec<LineMov
 ///
 /// - A line has the words of N, G, M, X, Y, Z, F, S and P; every other letter is refused, and so are block delete
 ///   (`/`), parameters (`#`), expressions (`[`) and O words. A letter other than G and M stands once in a line.
-/// - Of the G words G0 and G1 are taken, one of them a line; G20 or G21 where it is the job's unit; and without
+/// - Of the G words G0 and G1 are accepted, one of them a line; G20 or G21 where it is the job's unit; and without
 ///   effect G17, G40, G49, G54, G61, G64, G80, G90, G91.1 and G94. Arcs (G2, G3), G91 and all others are refused.
 /// - Of the M words M2 and M30 end the program behind their line, and M3, M4, M5, M7, M8 and M9 have no effect. All
-///   others are refused. Words of one modal group may stand together, but for G0 and G1.
+///   others are refused. Words of one modal group may stand together, except G0 and G1.
 /// - N, F, S and P take any number, anywhere in the line, without effect. G0, G1 and no motion word give the same
 ///   straight path, whatever the feed. A bare G0 or G1 is no move.
 /// - No mode is asked of a program: without G20, G21 and G90 the job's unit and absolute positions hold.

@@ -64,7 +64,7 @@ AllDigits-from_test (digit ∷ digits) all =
     let here = IsDigit-from_test digit parts.0 in
     (omega arith, AllDigits-from_test digits parts.1)
 
--- at most so many digits but for zeros in front
+-- at most so many digits, except zeros in front
 pub digits_value-lt_counted : (most : ℕ) (digits : List ℕ) → all_ascii_digits digits ≡ true → counted_digits digits ≤ most → digits_value_after 10 0 digits < 10 ^ most
 digits_value-lt_counted most [] all few = omega (arith, one-le-pow most 10)
 digits_value-lt_counted most (digit ∷ digits) all few =
@@ -93,10 +93,10 @@ pub record AreNumeral (whole fraction : List ℕ) : Type 0 where
 
 pub AreNumeral-from_tests : (whole fraction : List ℕ) → (leb 1 (length (whole ++ fraction)) && all_ascii_digits (whole ++ fraction)) ≡ true → counted_digits (whole ++ fraction) ≤ 27 → AreNumeral whole fraction
 AreNumeral-from_tests whole fraction test few =
-    let all : all_ascii_digits (whole ++ fraction) ≡ true = (and_parts _ _ test).1 in
+    let all : all_ascii_digits (whole ++ fraction) ≡ true = (and_parts (leb 1 (length (whole ++ fraction))) (all_ascii_digits (whole ++ fraction)) test).1 in
     let parts = and_parts (all_ascii_digits whole) (all_ascii_digits fraction) (sym (all_ascii_digits-append whole fraction) ∙ all) in
-    let value = digits_value_after-append 0 whole fraction in
-    let small = digits_value-lt_counted 27 (whole ++ fraction) all few in
+    let value : digits_value_after 10 0 (whole ++ fraction) ≡ digits_value_after 10 (digits_value_after 10 0 whole) fraction = digits_value_after-append 0 whole fraction in
+    let small : digits_value_after 10 0 (whole ++ fraction) < 10 ^ 27 = digits_value-lt_counted 27 (whole ++ fraction) all few in
     record {
       in_whole = parts.0;
       in_fraction = parts.1;

@@ -4,6 +4,7 @@ use Rattle.integer_algebra.specs.Ranges.{IsUpTo}
 use Rattle.std.specs.Str.{all_ascii_digits}
 use Rattle.std.specs.Str.Parse.{digits_value}
 use Rattle.std.specs.List.{before_first, after_first, list_any}
+use Rattle.grid_num.specs.declared.whole.TheConstants.{MOST_WHOLE_DIGITS}
 
 -- '-'
 abbrev pub minus : ℕ
@@ -12,7 +13,7 @@ minus = 45
 -- the number that one to nine digits write in base 10
 abbrev pub digits_of : List ℕ → Option ℕ
 digits_of text =
-    if nat_le 1 (length text) && nat_le (length text) 9 && all_ascii_digits text then Some (digits_value 10 text) else None
+    if nat_le 1 (length text) && nat_le (length text) MOST_WHOLE_DIGITS && all_ascii_digits text then Some (digits_value 10 text) else None
 
 -- the number that an optional minus and one to nine digits write; a minus before zeros is 0
 abbrev pub whole_of : List ℕ → Option ℤ

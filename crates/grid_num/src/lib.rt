@@ -15,5 +15,5 @@ mod writer;
 
 pub use decimal::{Decimal, MOST_DIGITS, NumFault, read_decimal};
 pub use units::Units;
-pub use whole::{read_whole, read_whole_pair};
+pub use whole::{MOST_WHOLE_DIGITS, read_whole, read_whole_pair};
 pub use writer::write_decimal;

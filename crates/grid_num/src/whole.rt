@@ -4,6 +4,9 @@ ghost use Rattle.grid_num.specs.Whole.{IsOfNineDigits, digits_of, pair_of, whole
 
 use crate::split::split_at_byte;
 
+/// The most digits of a whole number, zeros in front among them.
+pub const MOST_WHOLE_DIGITS: usize = 9;
+
 /// The number that an optional minus and one to nine digits write, or None for any other text.
 pub fn read_whole(text: &[u8]) -> Option<i32>
     ensures value { result ≡ whole_of text.now }
@@ -29,7 +32,7 @@ fn read_digits(text: &[u8]) -> Option<u32>
     ensures value { result ≡ digits_of text.now }
     ensures range { IfSome result (λ n. n < 10 ^ 9) }
 {
-    if text.is_empty() || text.len() > 9 {
+    if text.is_empty() || text.len() > MOST_WHOLE_DIGITS {
         return None;
     }
     let mut number = 0u32;
