@@ -2,4 +2,5 @@
 pub mod Collects
 pub mod Cutting
 pub mod Outside
+pub mod Reported
 pub mod Stepped

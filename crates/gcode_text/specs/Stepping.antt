@@ -1,5 +1,5 @@
 -- A program read a byte at a time: what each byte reports, and the state behind it.
-use Rattle.std.specs.Prelude.{◌≡◌, ℕ, ◌+◌, Bool, true, false, not, ◌||◌, if◌then◌else◌, Option, Some, None, List, [], ◌∷◌, ◌++◌, length, is_some, nat_lt, ◌==◌, Result, Ok, Err}
+use Rattle.std.specs.Prelude.{⊤, ◌≡◌, ℕ, ◌+◌, Bool, true, false, not, ◌||◌, if◌then◌else◌, Option, Some, None, List, [], ◌∷◌, ◌++◌, length, is_some, nat_lt, ◌==◌, Result, Ok, Err}
 use Rattle.grid_num.specs.Judging.{and_then}
 use Rattle.grid_num.specs.declared.units.Units.{Units}
 use Rattle.plane_exact.specs.declared.moves.LineMove.{LineMove}
@@ -110,3 +110,15 @@ IsAfter bytes s = s ≡ after (start_of s.units) bytes
 -- the moves that were reported, and the last one; or the first fault
 abbrev pub moves_at_end : List LineMove → Result (Option LineMove) CodeFault → Result (List LineMove) CodeFault
 moves_at_end reported last = and_then last (λ mv. Ok (reported ++ and_later mv []))
+
+-- a fact of the move that a byte reports, where it reports one
+abbrev pub IfMoved : Turn → (LineMove → Type 0) → Type 0
+IfMoved turn.Nothing P = ⊤
+IfMoved (turn.Moved mv) P = P mv
+IfMoved (turn.Failed fault) P = ⊤
+
+-- a fact of the fault that a byte reports, where it reports one
+abbrev pub IfFailed : Turn → (CodeFault → Type 0) → Type 0
+IfFailed turn.Nothing P = ⊤
+IfFailed (turn.Moved mv) P = ⊤
+IfFailed (turn.Failed fault) P = P fault

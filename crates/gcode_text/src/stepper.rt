@@ -1,7 +1,7 @@
 // Reads a program a byte at a time, and takes no memory.
-ghost use Rattle.std.specs.Prelude.{◌≡◌, ◌+◌, ◌<◌, [], ◌∷◌, ◌++◌, List, ℕ};
+ghost use Rattle.std.specs.Prelude.{◌≡◌, ◌+◌, ◌<◌, [], ◌∷◌, ◌++◌, List, ℕ, Ok, Err};
 ghost use Rattle.gcode_text.specs.Moves.{moves_of};
-ghost use Rattle.gcode_text.specs.Stepping.{IsAfter, last_move, moves_at_end, moves_reported, next, start_of, turn_of};
+ghost use Rattle.gcode_text.specs.Stepping.{IfFailed, IfMoved, IsAfter, last_move, moves_at_end, moves_reported, next, start_of, turn_of};
 
 use crate::fault::CodeFault;
 use crate::state::{MOST_CODE_BYTES, State, Turn};
@@ -37,8 +37,8 @@ impl Stepper {
         }
     }
 
-    /// Takes the next byte of the program, and says what it reports. After the first fault, and behind the line that ends
-    /// the program, no byte reports anything.
+    /// Takes the next byte of the program, and says what it reports: a move that it reports is the last one of all bytes fed, and
+    /// a fault is theirs. After the first fault, and behind the line that ends the program, no byte reports anything.
     pub fn byte(&mut self, byte: u8) -> Turn
         requires { self.old.fed < MOST_CODE_BYTES }
         ensures turn { result ≡ turn_of self.old byte }
@@ -46,6 +46,8 @@ impl Stepper {
         ensures units { self.new.units ≡ self.old.units }
         ensures fed { self.new.fed ≡ self.old.fed + 1 }
         ensures stands { (bytes : List ℕ) → IsAfter bytes self.old → IsAfter (bytes ++ byte ∷ []) self.new }
+        ensures moves { IfMoved result (λ mv. (bytes : List ℕ) → IsAfter bytes self.old → moves_of self.old.units (bytes ++ byte ∷ []) ≡ Ok (moves_reported (start_of self.old.units) bytes ++ mv ∷ [])) }
+        ensures fault { IfFailed result (λ fault. (bytes : List ℕ) → IsAfter bytes self.old → moves_of self.old.units (bytes ++ byte ∷ []) ≡ Err fault) }
     {
         self.state.step(byte)
     }

@@ -3,6 +3,7 @@ use Rattle.std.proofs.Common.{◌+◌, ◌<◌, ◌++◌, ◌∷◌, [], sym, ap
 use Rattle.gcode_text.specs.Stepping.{IsAfter, next}
 use Rattle.gcode_text.specs.declared.state.TheConstants.{MOST_CODE_BYTES}
 use Rattle.gcode_text.proofs.Stepped.{IsAfter-next, IsNext-next, IsWithin-next}
+use Rattle.gcode_text.proofs.Reported.{failed_is, moved_is}
 use Rattle.gcode_text.proofs.stepper.Stepper.byte.Goals as goal
 
 pub invariant_of-self : goal.invariant_of-self
@@ -22,3 +23,11 @@ pub returns-clause-stands : goal.returns-clause-stands
 returns-clause-stands c = λ bytes is_after.
     let is = c.step.ensures.next ∙ ap (λ s. next s c.args.byte) c.self.view_is in
     subst (IsAfter (bytes ++ c.args.byte ∷ [])) (sym is) (IsAfter-next c.args.self.now c.args.byte bytes is_after)
+
+pub returns-clause-moves : goal.returns-clause-moves
+returns-clause-moves c =
+    rw (c.step.ensures.turn, c.self.view_is) (moved_is c.args.self.now c.args.byte)
+
+pub returns-clause-fault : goal.returns-clause-fault
+returns-clause-fault c =
+    rw (c.step.ensures.turn, c.self.view_is) (failed_is c.args.self.now c.args.byte)
