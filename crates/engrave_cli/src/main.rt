@@ -3,6 +3,8 @@
 //! It is proved never to panic. What it promises is the contract of `engrave_core::engrave`.
 #![tactic(auto)]
 
+ghost use Rattle.std.specs.Prelude.{◌≡◌, ◌≢◌, ◌⊎◌, IfErr};
+
 use engrave_core::{engrave, status};
 use shop_port::{HostDepot, HostSink};
 use std::io::ErrorKind;
@@ -10,19 +12,29 @@ use std::process::ExitCode;
 use std::rt::{Env, Files};
 use std::{env, io};
 
-/// The status that tells that memory ran out while the words were listed.
+/// The status that reports that memory ran out while the words were listed.
 const NO_MEMORY: u8 = 7;
 
-/// The status that tells that the words couldn't be listed for another cause.
+/// The status that reports that the words couldn't be listed for another cause.
 const NO_WORDS: u8 = 8;
 
-/// The words behind the program's name, or the status that tells why they can't be had.
-fn words(rt: &(impl Env + AllocGlobal)) -> Result<Vec<String>, u8> {
-    let mut listed = match env::args(rt) {
-        Ok(listed) => listed,
-        Err(error) if error.kind() == ErrorKind::OutOfMemory => return Err(NO_MEMORY),
-        Err(_) => return Err(NO_WORDS),
-    };
+/// The status that reports why the words couldn't be listed.
+fn listing_status(kind: ErrorKind) -> u8
+    ensures memory { kind ≡ ErrorKind.OutOfMemory → result ≡ NO_MEMORY }
+    ensures other { kind ≢ ErrorKind.OutOfMemory → result ≡ NO_WORDS }
+{
+    if kind == ErrorKind::OutOfMemory {
+        NO_MEMORY
+    } else {
+        NO_WORDS
+    }
+}
+
+/// The words behind the program's name, or the status that reports why they can't be had.
+fn words(rt: &(impl Env + AllocGlobal)) -> Result<Vec<String>, u8>
+    ensures { IfErr result (λ status. (status ≡ NO_MEMORY) ⊎ (status ≡ NO_WORDS)) }
+{
+    let mut listed = env::args(rt).map_err(|error| listing_status(error.kind()))?;
     let _program = listed.next();
     listed.collect(rt.alloc()).map_err(|_| NO_MEMORY)
 }

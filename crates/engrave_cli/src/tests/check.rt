@@ -1,0 +1,129 @@
+// `check`: the verdict on a G-code program, over a drawing.
+ghost use Rattle.std.specs.Prelude.{◌≤◌};
+
+use super::{ANGLE, DOWN, LENIENT, NEVER, SQUARE, run};
+use std::test::Fail;
+
+/// A square of four grid units.
+const SMALL: &str = "0,0 4,0 4,4 0,4";
+
+/// From the one arm of the L into the other, past its inner corner.
+const ROUND: &str = "G21\nG0 Z2\nG0 X1 Y3\nG1 Z-1\nG1 X3 Y1\nM2\n";
+
+/// A carved square: from the corners to the middle and back.
+const CARVED: &str =
+    "(bit 1/1 rmax 2 limit 32767 step 2)\nG21\nG90\nF500\nG0 Z2.00\nG0 X0.00 Y0.00\nG1 Z0.00\nG1 X0.02 Y0.02 Z-0.02\nG1 X0.04 Y0.00 Z0.00\n\
+    G1 X0.02 Y0.02 Z-0.02\nG1 X0.04 Y0.04 Z0.00\nG1 X0.02 Y0.02 Z-0.02\nG1 X0.00 Y0.04 Z0.00\nG1 X0.02 Y0.02 Z-0.02\n\
+    G1 X0.00 Y0.00 Z0.00\nG0 Z2.00\n(uncut 0 of 9)\nM2\n";
+
+#[test]
+fn check_names_the_first_move_that_gouges(rt: HostRuntime) -> Result<(), Fail> {
+    for (drawing, code, rmax, line, want) in [
+        (ANGLE, ROUND, 200, "line 5 gouge edge 2\n", 1),
+        (ANGLE, ROUND, 50, "line 4 too deep\n", 1),
+        (ANGLE, DOWN, 200, "clear 2 moves\n", 0),
+        (ANGLE, LENIENT, 200, "clear 3 moves\n", 0),
+        (
+            ANGLE,
+            "G0 Z2\nG0 X3 Y3\nG1 Z-0.1",
+            200,
+            "line 3 outside\n",
+            1,
+        ),
+        (
+            ANGLE,
+            "G0 Z2\nG0 X1 Y3\nG1 X1 Y1 Z-1",
+            200,
+            "line 3 slant\n",
+            1,
+        ),
+        (ANGLE, "", 200, "clear 0 moves\n", 0),
+        ("", "G0 Z2\nG0 X1 Y3\nG1 Z-0.1", 200, "line 3 outside\n", 1),
+        ("", "G0 Z2\nG0 X1 Y3\nG0 X9 Y9", 200, "clear 1 moves\n", 0),
+        (SMALL, CARVED, 2, "clear 10 moves\n", 0),
+        // A disc that touches an edge, and one that reaches over it.
+        (SQUARE, "G0 Z2\nG0 X1 Y5\nG1 Z-1", 600, "clear 1 moves\n", 0),
+        (
+            SQUARE,
+            "G0 Z2\nG0 X1 Y5\nG1 Z-1.01",
+            600,
+            "line 3 gouge edge 3\n",
+            1,
+        ),
+        // Ends on the outline at the surface, runs along an edge at the surface, and rises in place.
+        (
+            SQUARE,
+            "G0 Z2\nG0 X1 Y5\nG1 Z0\nG1 X0 Y5",
+            600,
+            "clear 2 moves\n",
+            0,
+        ),
+        (
+            SQUARE,
+            "G0 Z2\nG0 X0 Y0\nG1 Z0\nG1 X10 Y0",
+            600,
+            "clear 2 moves\n",
+            0,
+        ),
+        (
+            SQUARE,
+            "G0 Z2\nG0 X1 Y5\nG1 Z-1\nG0 Z2",
+            600,
+            "clear 2 moves\n",
+            0,
+        ),
+        // A loop of two points encloses nothing, and is an outline all the same.
+        (
+            "0,0 9,0",
+            "G0 Z2\nG0 X0.05 Y0\nG1 Z-0.01",
+            600,
+            "line 3 gouge edge 0\n",
+            1,
+        ),
+        // A rapid move below the surface is a move like any other.
+        (
+            SQUARE,
+            "G0 Z2\nG0 X1 Y5\nG1 Z-1\nG0 X11 Y5",
+            600,
+            "line 4 gouge edge 1\n",
+            1,
+        ),
+        (ANGLE, "G2 X1", 200, "input code line 1 word\n", 3),
+    ] {
+        let words = format!(in rt.alloc(); "check --drawing=d --code=c --bit=1/1 --rmax={rmax}")?;
+        let (status, text) = run(
+            rt.alloc(),
+            words.as_str(),
+            (drawing, code),
+            65_536,
+            (NEVER, NEVER),
+        )?;
+        assert_eq!(rt;
+            (status, text.as_str()),
+            (want, line),
+            "{code} over {drawing}"
+        );
+    }
+    Ok(())
+}
+
+#[test]
+fn a_program_read_in_pieces_is_the_same_program(rt: HostRuntime) -> Result<(), Fail> {
+    let words = "check --drawing=d --code=c --bit=1/1 --rmax=200";
+    for per_call in [1, 7, 64] {
+        assert!(rt; 1 <= per_call);
+        let (status, text) = run(
+            rt.alloc(),
+            words,
+            (ANGLE, LENIENT),
+            per_call,
+            (NEVER, NEVER),
+        )?;
+        assert_eq!(rt;
+            (status, text.as_str()),
+            (0, "clear 3 moves\n"),
+            "{per_call}"
+        );
+    }
+    Ok(())
+}

@@ -1,0 +1,34 @@
+// `moves`: the list of the moves of a G-code program, or its fault.
+
+use super::{DOWN, NEVER, run};
+use std::test::Fail;
+
+#[test]
+fn moves_are_listed_and_faults_named(rt: HostRuntime) -> Result<(), Fail> {
+    for (code, text, want) in [
+        (
+            DOWN,
+            "4 100,300,200 100,300,-100\n5 100,300,-100 100,100,-100\nmoves 2\n",
+            0,
+        ),
+        ("Z-1", "input code line 1 unplaced\n", 3),
+        ("X1.005", "input code line 1 off grid\n", 3),
+        ("G0 X1 X2", "input code line 1 twice\n", 3),
+        ("G2 X1", "input code line 1 word\n", 3),
+        ("G91", "input code line 1 incremental\n", 3),
+        ("G20", "input code line 1 units\n", 3),
+        ("(a", "input code line 1 open comment\n", 3),
+        ("X1.", "moves 0\n", 0),
+        ("", "moves 0\n", 0),
+    ] {
+        let (status, listed) = run(
+            rt.alloc(),
+            "moves --code=c",
+            ("", code),
+            65_536,
+            (NEVER, NEVER),
+        )?;
+        assert_eq!(rt; (status, listed.as_str()), (want, text), "{code}");
+    }
+    Ok(())
+}

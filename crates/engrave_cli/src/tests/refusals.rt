@@ -1,0 +1,81 @@
+// Refusals: each by its line and status, and in their order.
+
+use super::{FIRST, NEVER, run};
+use std::test::Fail;
+
+#[test]
+fn refusals_are_reported_by_their_line_and_status(rt: HostRuntime) -> Result<(), Fail> {
+    for (words, drawing, line, want) in [
+        (
+            FIRST,
+            "0,0 9,0\n# a\n1,1 1,1",
+            "input loops 16 same point\n",
+            3,
+        ),
+        (FIRST, "0,0 9;0", "input loops 4 syntax\n", 3),
+        (
+            "probe --drawing= --at=5,5 --bit=1/1 --rmax=600",
+            "",
+            "absent drawing\n",
+            4,
+        ),
+        ("moves --code=e", "", "absent code\n", 4),
+        (
+            "check --drawing=e --code=f --bit=1/1 --rmax=1",
+            "",
+            "absent drawing\n",
+            4,
+        ),
+        (
+            "check --drawing=d --code=f --bit=1/1 --rmax=1",
+            "5,5",
+            "input loops 0 short\n",
+            3,
+        ),
+        (
+            "check --drawing=d --code=f --bit=1/1 --rmax=1",
+            "",
+            "absent code\n",
+            4,
+        ),
+        (
+            "probe --drawing=d --at=5,5 --bit=1/1 --rmax=1 --limit=0",
+            "",
+            "usage\n",
+            2,
+        ),
+        ("carve", "", "usage\n", 2),
+        (
+            "probe --drawing=d --at=5,5 --bit=1/1 --rmax=8192",
+            "",
+            "usage\n",
+            2,
+        ),
+        (
+            "probe --drawing=d --at=5,5 --bit=1/2001 --rmax=1",
+            "",
+            "usage\n",
+            2,
+        ),
+        (
+            "probe --drawing=d --at=5,5 --bit=0/1 --rmax=1",
+            "",
+            "usage\n",
+            2,
+        ),
+        (
+            "probe --drawing=d --at=5,32768 --bit=1/1 --rmax=1",
+            "",
+            "usage\n",
+            2,
+        ),
+    ] {
+        let (status, text) = run(rt.alloc(), words, (drawing, ""), 65_536, (NEVER, NEVER))?;
+        assert_eq!(rt;
+            (status, text.as_str()),
+            (want, line),
+            "{words} of {drawing}"
+        );
+    }
+    Ok(())
+}
