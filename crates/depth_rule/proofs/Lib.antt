@@ -3,3 +3,4 @@ pub mod Bisection
 pub mod Boxes
 pub mod Mets
 pub mod Safety
+pub mod Exact

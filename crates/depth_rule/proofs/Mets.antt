@@ -4,7 +4,7 @@ use Rattle.plane_exact.specs.Cone.{Cone}
 use Rattle.plane_exact.specs.Moves.{IsDeep}
 use Rattle.plane_exact.specs.declared.moves.Move.{Move}
 use Rattle.plane_exact.specs.declared.point.Seg.{Seg}
-use Rattle.engrave_model.specs.Clear.{IsClear}
+use Rattle.swept_move.specs.Clear.{IsClear}
 use Rattle.depth_rule.specs.Met.{IsMet}
 use Rattle.depth_rule.specs.declared.met.Met.{Met}
 use Rattle.depth_rule.specs.declared.met.Met.TheVariants.{Edge, Outside, Nothing}

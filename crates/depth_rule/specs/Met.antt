@@ -1,12 +1,12 @@
--- What a move meets in a drawing.
+-- What a move that goes below the surface meets in a drawing.
 use Rattle.std.specs.Prelude.{ℕ, ◌<◌, List, length, slice_index_or, All}
 use Rattle.plane_exact.specs.Cone.{Cone}
-use Rattle.plane_exact.specs.Plane.{rational}
 use Rattle.plane_exact.specs.declared.moves.Move.{Move}
 use Rattle.plane_exact.specs.declared.point.Seg.{Seg}
-use Rattle.plane_exact.specs.Moves.{IsDeep, first_deep}
-use Rattle.engrave_model.specs.Clear.{PassesEdge}
+use Rattle.plane_exact.specs.Moves.{first_deep}
+use Rattle.swept_move.specs.Clear.{PassesEdge}
 use Rattle.engrave_model.specs.Inside.{IsInside}
+use Rattle.engrave_model.specs.Removal.{from_tenths}
 use Rattle.depth_rule.specs.declared.met.Met.{Met}
 use Rattle.depth_rule.specs.declared.met.Met.TheVariants.{Edge, Outside, Nothing}
 
@@ -19,14 +19,14 @@ pub record IsFirstMet (edges : List Seg) (cone : Cone) (mv : Move) (e : ℕ) : T
 -- the move passes the tests against every edge, and its first end below the surface isn't inside
 pub record IsOutside (edges : List Seg) (cone : Cone) (mv : Move) : Type 0 where
   pub passes : All (PassesEdge cone mv) edges
-  pub deep : IsDeep mv
-  pub outside : ¬ IsInside edges (rational (first_deep mv))
+  pub outside : ¬ IsInside edges (from_tenths (first_deep mv))
 
--- the move passes the tests against every edge, and starts inside where it goes below the surface
+-- the move passes the tests against every edge, and its first end below the surface is inside
 pub record MeetsNothing (edges : List Seg) (cone : Cone) (mv : Move) : Type 0 where
   pub passes : All (PassesEdge cone mv) edges
-  pub inside : IsDeep mv → IsInside edges (rational (first_deep mv))
+  pub inside : IsInside edges (from_tenths (first_deep mv))
 
+-- what the move meets, by each of the answers
 abbrev pub IsMet : List Seg → Cone → Move → Met → Type 0
 IsMet edges cone mv (Edge e) = IsFirstMet edges cone mv e
 IsMet edges cone mv Outside = IsOutside edges cone mv

@@ -1,7 +1,8 @@
 //! The scene of a drawing: how deep the bit may go at a point of it, and the first edge that a move meets.
 //!
 //! Its promise is the clause of `greatest_depth`, that the depth is the greatest that fits, and that of `first_met`, that the
-//! edge is the first against which the tests of a move fail, and `law::clear_move_law`, that a clear move is safe.
+//! edge is the first against which the tests of a move fail, and `law::clear_move_law` and
+//! `law::safe_move_law`: a clear move is safe, and a safe one that isn't too deep is clear.
 #![tactic(auto)]
 
 mod bounds;
@@ -15,7 +16,7 @@ mod steps;
 mod tests;
 
 pub use bounds::Bounds;
-pub use clear::{is_clear, is_slant};
+pub use clear::is_clear;
 pub use depth::greatest_depth;
 pub use met::{Met, first_met};
 pub use scene::Scene;

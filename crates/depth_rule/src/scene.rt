@@ -2,7 +2,7 @@
 use crate::bounds::{Bounds, bounds_of_starts};
 use evenodd_region::{Rows, inside, inside_ratio};
 use loops_text::Drawing;
-use plane_exact::Point;
+use plane_exact::{Point, Spot};
 use std::alloc::{AllocError, Global};
 use std::marker::Model;
 
@@ -30,6 +30,7 @@ impl Scene {
     ghost use Rattle.plane_exact.specs.Plane.{RationalPoint, rational};
     ghost use Rattle.engrave_model.specs.Drawing.{edges_of};
     ghost use Rattle.engrave_model.specs.Inside.{IsInside};
+    ghost use Rattle.engrave_model.specs.Removal.{from_tenths};
     ghost use Rattle.evenodd_region.specs.Bounds.{IsBoxOf, points_of};
     ghost use Rattle.evenodd_region.specs.Lookup.{IsPointOf, IsRatio};
 
@@ -69,5 +70,12 @@ impl Scene {
         ensures { (w : RationalPoint) → IsPointOf x y den w → IsTrue result ↔ IsInside (edges_of self.now) w }
     {
         inside_ratio(&self.rows, x, y, den)
+    }
+
+    /// Whether the drawing holds the place of the spot.
+    pub fn holds(&self, spot: Spot) -> bool
+        ensures { IsTrue result ↔ IsInside (edges_of self.now) (from_tenths spot.at) }
+    {
+        self.inside_at(i128::from(spot.x), i128::from(spot.y), 10)
     }
 }

@@ -2,7 +2,7 @@
 use crate::clear::is_clear;
 use crate::scene::Scene;
 use loops_text::Drawing;
-use plane_exact::{Bit, Move, Place, Point};
+use plane_exact::{Bit, Move, Point, Spot};
 use std::alloc::Global;
 use std::test::Fail;
 
@@ -26,13 +26,12 @@ fn plate(alloc: Global) -> Result<Scene, Fail> {
     Ok(Scene::new(alloc, drawing)?)
 }
 
-// The place over (x, 35) at the height h.
-fn place(x: i64, h: i32) -> Result<Place, Fail> {
-    let at = Point::new(x, 35).ok_or("a point")?;
-    if -100 <= h && h <= 100 {
-        Ok(Place { at, h })
+// The spot over (x, 350) at the height h, in tenths of a grid unit.
+fn spot(x: i32, h: i32) -> Result<Spot, Fail> {
+    if 0 <= x && x <= 3000 && -1000 <= h && h <= 1000 {
+        Ok(Spot { x, y: 350, h })
     } else {
-        Err(Fail::from("a height"))
+        Err(Fail::from("a spot"))
     }
 }
 
@@ -51,15 +50,15 @@ fn a_move_is_clear_until_the_bit_touches_an_edge(rt: HostRuntime) -> Result<(), 
     let scene = plate(rt.alloc())?;
     let bit = Bit::new(1, 1, 100).ok_or("bit")?;
     for (to, h, want) in [
-        (80, -10, true),
-        (81, -10, false),
-        (200, 0, true),
-        (50, -35, true),
-        (50, -36, false),
+        (800, -100, true),
+        (801, -100, false),
+        (2000, 0, true),
+        (500, -350, true),
+        (500, -351, false),
     ] {
         let mv = Move {
-            from: place(40, h)?,
-            to: place(to, h)?,
+            from: spot(400, h)?,
+            to: spot(to, h)?,
         };
         assert_eq!(rt; is_clear(&scene, &bit, &mv), want, "to {to} at {h}");
     }

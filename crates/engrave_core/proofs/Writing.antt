@@ -1,11 +1,11 @@
 -- From what a reply is, and how much of its text was written, to what the top call promises.
 use Rattle.std.specs.Prelude.{◌≡◌, ◌⊎◌, ℕ, Option, Some, None, List, IfSome}
-use Rattle.std.proofs.Common.{sym, subst, refl, inl, inr, arith, ◌≤◌}
+use Rattle.std.proofs.Common.{sym, subst, refl, inl, inr}
 use Rattle.shop_port.specs.Counts.{Rose}
 use Rattle.shop_port.specs.Output.{Appended, AppendedPart}
 use Rattle.engrave_core.specs.Due.{IsDue}
 use Rattle.engrave_core.specs.Line.{line_of}
-use Rattle.engrave_core.specs.Outcome.{IfAbsent, IfAnswered, IfRefused, HasText}
+use Rattle.engrave_core.specs.Outcome.{IfAnswered, IfRefused, HasText}
 use Rattle.engrave_core.specs.Stored.{IsCaused}
 use Rattle.engrave_core.specs.Top.{WritesDue, WritesPart, WritesPartOfReadFault}
 use Rattle.engrave_core.specs.declared.outcome.Outcome.{Outcome}

@@ -1,8 +1,8 @@
--- What each command's request is due, which refusals it has, and what `Done` says of it beyond its text: a line a command.
+-- What each command's request is due, which refusals it has, and what its outcome says beyond its text: a line a command.
 use Rattle.std.specs.Prelude.{ℕ, List}
 use Rattle.job_words.specs.declared.request.Request.{Request}
 use Rattle.job_words.specs.declared.request.Request.TheVariants as request
-use Rattle.engrave_core.specs.Commands.Check.{StoresSafeCode, IsDueOfCheck, IsRefusalOfCheck}
+use Rattle.engrave_core.specs.Commands.Check.{StoresSafeCode, IsDueOfCheck, IsRefusalOfCheck, IsTrueOfCheck}
 use Rattle.engrave_core.specs.Commands.Moves.{IsDueOfMoves, IsRefusalOfMoves}
 use Rattle.engrave_core.specs.Commands.Probe.{IsDueOfProbe, IsRefusalOfProbe}
 use Rattle.engrave_core.specs.Given.{cone_of}
@@ -29,3 +29,9 @@ abbrev pub IsSafeRequest : Files → Request → Type 0
 IsSafeRequest files (request.Probe shape at bit rmax limit) = Unit {0}
 IsSafeRequest files (request.Moves code units) = Unit {0}
 IsSafeRequest files (request.Check shape code bit rmax) = StoresSafeCode files shape code (cone_of bit rmax)
+
+-- what the outcome says beyond the text, be it `Done` or a verdict
+abbrev pub IsTrueOfRequest : Files → Request → Outcome → Type 0
+IsTrueOfRequest files (request.Probe shape at bit rmax limit) outcome = Unit {0}
+IsTrueOfRequest files (request.Moves code units) outcome = Unit {0}
+IsTrueOfRequest files (request.Check shape code bit rmax) outcome = IsTrueOfCheck files shape code (cone_of bit rmax) outcome

@@ -2,7 +2,7 @@
 use Rattle.std.specs.Prelude.{ℕ, Option, Some, None, List, is_some, IsTrue}
 use Rattle.job_words.specs.Request.{request_of}
 use Rattle.job_words.specs.declared.request.Request.{Request}
-use Rattle.engrave_core.specs.Commands.{IsDueOfRequest, IsRefusalOfRequest, IsSafeRequest}
+use Rattle.engrave_core.specs.Commands.{IsDueOfRequest, IsRefusalOfRequest, IsSafeRequest, IsTrueOfRequest}
 use Rattle.engrave_core.specs.Given.{Refuses}
 use Rattle.engrave_core.specs.Stored.{Files}
 use Rattle.engrave_core.specs.declared.outcome.Outcome.{Outcome}
@@ -39,3 +39,8 @@ IsAnswer request outcome = IsRefusalOfWords request outcome
 abbrev pub IsSafeRun : Files → Option Request → Type 0
 IsSafeRun files None = Unit {0}
 IsSafeRun files (Some request) = IsSafeRequest files request
+
+-- what the outcome says of a checked G-code program: a yes, that it is fit, and a no, that it isn't, and which line harms
+abbrev pub IsTrueRun : Files → Option Request → Outcome → Type 0
+IsTrueRun files None outcome = Unit {0}
+IsTrueRun files (Some request) outcome = IsTrueOfRequest files request outcome

@@ -36,7 +36,6 @@ input_line (Code fault) = code_line fault
 abbrev pub verdict_line : Verdict → List ℕ
 verdict_line verdict.Clear = []
 verdict_line (verdict.TooDeep line) = codes "line " ++ decimal line ++ codes " too deep\n"
-verdict_line (verdict.Slant line) = codes "line " ++ decimal line ++ codes " slant\n"
 verdict_line (verdict.Gouge line edge) = codes "line " ++ decimal line ++ codes " gouge edge " ++ decimal edge ++ codes "\n"
 verdict_line (verdict.Outside line) = codes "line " ++ decimal line ++ codes " outside\n"
 

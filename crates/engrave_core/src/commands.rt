@@ -19,7 +19,7 @@ use shop_port::Depot;
 use std::alloc::Global;
 
 /// The text that the words' command writes, or the refusal.
-pub fn answer<D: Depot>(alloc: Global, words: &[String], depot: &mut D) -> Result<String, Refusal>
+pub fn answer<D: Depot>(alloc: Global, words: &[String], depot: &mut D) -> Result<Vec<u8>, Refusal>
     ensures value { AnswersFrom D.held D.faults D.misses depot.old depot.new
         (λ files. IsReported (IsDue (map string_bytes words.now) files)) result }
     ensures refusal { IfErr result (λ refusal. IsRefusalOfWords (request_of (map string_bytes words.now)) (outcome_of refusal)) }
@@ -31,7 +31,7 @@ pub fn answer<D: Depot>(alloc: Global, words: &[String], depot: &mut D) -> Resul
 }
 
 /// The text that the request's command writes, or the refusal.
-fn run<D: Depot>(alloc: Global, request: &Request, depot: &mut D) -> Result<String, Refusal>
+fn run<D: Depot>(alloc: Global, request: &Request, depot: &mut D) -> Result<Vec<u8>, Refusal>
     requires { IsInRange request.now }
     ensures value { AnswersFrom D.held D.faults D.misses depot.old depot.new
         (λ files. IsReported (IsDueOfRequest files request.now)) result }

@@ -58,7 +58,6 @@ fn line_of_verdict(alloc: Global, verdict: &Verdict) -> Result<String, AllocErro
     match verdict {
         Verdict::Clear => Ok(String::new(alloc)),
         Verdict::TooDeep { line } => format!(in alloc; "line {line} too deep\n"),
-        Verdict::Slant { line } => format!(in alloc; "line {line} slant\n"),
         Verdict::Gouge { line, edge } => format!(in alloc; "line {line} gouge edge {edge}\n"),
         Verdict::Outside { line } => format!(in alloc; "line {line} outside\n"),
     }

@@ -3,7 +3,7 @@ ghost use Rattle.std.specs.Prelude.{◌≡◌, ◌⊎◌, map, string_bytes, IfS
 ghost use Rattle.job_words.specs.Request.{request_of};
 ghost use Rattle.shop_port.specs.Counts.{Rose};
 ghost use Rattle.shop_port.specs.Output.{Appended, AppendedPart};
-ghost use Rattle.engrave_core.specs.Due.{IsAccepted, IsAnswer, IsDue, IsSafeRun};
+ghost use Rattle.engrave_core.specs.Due.{IsAccepted, IsAnswer, IsDue, IsSafeRun, IsTrueRun};
 ghost use Rattle.engrave_core.specs.Stored.{IsCaused};
 ghost use Rattle.engrave_core.specs.Line.{line_of};
 ghost use Rattle.engrave_core.specs.Outcome.{IfAnswered, IfRefused, HasText};
@@ -20,7 +20,7 @@ use std::alloc::{AllocError, Global};
 #[derive(Drop)]
 struct Reply {
     outcome: Outcome,
-    text: String,
+    text: Vec<u8>,
 }
 
 /// Runs a command: reads its words and files, makes the whole text, and writes it.
@@ -37,6 +37,10 @@ pub fn engrave<D: Depot, S: Sink>(
 ) -> Outcome
     // A G-code program that is called clear removes no point outside the drawing, at any moment of any move.
     ensures safe { IfSome (D.held depot.old) (λ files. result ≡ Outcome.Done → IsSafeRun files (request_of (map string_bytes words.now))) }
+
+    // The verdict is exact: a program that is called clear is fit, and one that isn't isn't; where it is called a gouge or
+    // outside, a moment of a move of the named line removes a point that isn't inside, for a gouge a point of the named edge.
+    ensures exact { IfSome (D.held depot.old) (λ files. IsTrueRun files (request_of (map string_bytes words.now)) result) }
 
     // What the words and the files decide is what is due, and its whole text is written.
     ensures due { IfSome (D.held depot.old) (λ files. IfAnswered result
@@ -78,8 +82,8 @@ pub fn engrave<D: Depot, S: Sink>(
 // The result is nested, since running out of memory has no text: it is an `Err`, and every other outcome a reply.
 fn decide<D: Depot>(alloc: Global, words: &[String], depot: &mut D) -> Result<Reply, AllocError>
     ensures due { IfSome (D.held depot.old) (λ files. IfOk result (λ reply. IfAnswered reply.outcome
-        (IsDue (map string_bytes words.now) files reply.outcome (string_bytes reply.text)))) }
-    ensures refused { IfOk result (λ reply. IfRefused reply.outcome (string_bytes reply.text ≡ line_of reply.outcome)) }
+        (IsDue (map string_bytes words.now) files reply.outcome reply.text.items))) }
+    ensures refused { IfOk result (λ reply. IfRefused reply.outcome (reply.text.items ≡ line_of reply.outcome)) }
     ensures writes { IfOk result (λ reply. HasText reply.outcome) }
     ensures answers { IfOk result (λ reply. IsAnswer (request_of (map string_bytes words.now)) reply.outcome) }
     ensures caused { IfOk result (λ reply. IsCaused (D.faults depot.old) (D.faults depot.new) (D.misses depot.old) (D.misses depot.new) reply.outcome) }
@@ -93,10 +97,10 @@ fn decide<D: Depot>(alloc: Global, words: &[String], depot: &mut D) -> Result<Re
         }),
         Err(Refusal::Memory) => Err(AllocError),
         Err(refusal) => {
-            let text = line_of_refusal(alloc, &refusal)?;
+            let line = line_of_refusal(alloc, &refusal)?;
             Ok(Reply {
                 outcome: Outcome::from(refusal),
-                text,
+                text: line.into_bytes(),
             })
         }
     }
@@ -105,12 +109,12 @@ fn decide<D: Depot>(alloc: Global, words: &[String], depot: &mut D) -> Result<Re
 /// Writes the whole text of a reply.
 fn write<S: Sink>(reply: Reply, out: &mut S) -> Outcome
     requires { HasText reply.outcome }
-    ensures written { result ≡ reply.outcome → Appended (S.written out.old) (S.written out.new) (string_bytes reply.text) }
-    ensures cut_short { result ≡ Outcome.WriteFault → AppendedPart (S.written out.old) (S.written out.new) (string_bytes reply.text) }
+    ensures written { result ≡ reply.outcome → Appended (S.written out.old) (S.written out.new) reply.text.items }
+    ensures cut_short { result ≡ Outcome.WriteFault → AppendedPart (S.written out.old) (S.written out.new) reply.text.items }
     ensures write_fault { result ≡ Outcome.WriteFault → Rose (S.faults out.old) (S.faults out.new) }
     ensures either { (result ≡ reply.outcome) ⊎ (result ≡ Outcome.WriteFault) }
 {
-    match send(out, reply.text.as_bytes()) {
+    match send(out, reply.text.as_slice()) {
         Ok(()) => reply.outcome,
         Err(WriteFault) => Outcome::WriteFault,
     }

@@ -23,6 +23,7 @@ crosses_right_of e w =
     let across = (w.x -ℤ w.over *ℤ e.a.x) *ℤ (e.b.y -ℤ e.a.y) in
     if int_lt e.a.y e.b.y then int_lt across along else int_lt along across
 
+-- the edge passes the row of w, strictly to the right of w
 abbrev pub is_counted : RationalPoint → Seg → Bool
 is_counted w e = passes_row e w && crosses_right_of e w
 

@@ -1,5 +1,4 @@
 -- The definitions of the crate.
-pub mod Clear
 pub mod Depth
 pub mod Drawing
 pub mod Inside

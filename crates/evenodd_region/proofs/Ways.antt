@@ -5,13 +5,14 @@ use Rattle.std.proofs.Common.{◌≡◌, ◌<◌, nat_lt, Bool, true, false, ref
 use Rattle.std.proofs.lemmas.Int.{ints, by_lt_z}
 use Rattle.integer_algebra.proofs.Ring.{ring, V, K, M, ◌⊕◌, ◌⊖◌, ◌⊗◌}
 use Rattle.integer_algebra.proofs.Order.{mix, mix_nonneg, times_nonneg, times_pos}
-use Rattle.plane_exact.specs.Plane.{Fraction, GridPoint, RationalPoint, rational}
+use Rattle.plane_exact.specs.Plane.{Fraction, GridPoint, RationalPoint}
 use Rattle.plane_exact.specs.declared.moves.Move.{Move}
 use Rattle.plane_exact.specs.Moves.{depth_of, IsDeep, first_deep}
-use Rattle.engrave_model.specs.Removal.{Moment, between, place_at, depth_at}
+use Rattle.engrave_model.specs.Removal.{Moment, between, place_at, depth_at, from_tenths}
 use Rattle.plane_exact.proofs.Fractions.{first, last}
 use Rattle.evenodd_region.specs.Parity.{IsOnPath}
 use Rattle.evenodd_region.proofs.Discs.{IsSamePlace}
+use Rattle.evenodd_region.proofs.Tenths.{tenth}
 
 -- ---- a moment between two
 
@@ -133,15 +134,16 @@ at_first f l = ring (f ∷ l ∷ []) (V 0) ((K (pos 1) ⊖ K (pos 0)) ⊗ V 0 �
 at_last : (f l : ℤ) → l ≡ between last f l
 at_last f l = ring (f ∷ l ∷ []) (V 1) ((K (pos 1) ⊖ K (pos 1)) ⊗ V 0 ⊕ K (pos 1) ⊗ V 1) tt
 
-same_rational : (x y x' y' : ℤ) → x ≡ x' → y ≡ y'
-    → rational (record { x = x; y = y }) ≡ record { x = x'; y = y'; over = pos 1; positive = record { le = tt } }
-same_rational x y x' y' across up = ap₂ (λ x y. rational (record { x = x; y = y })) across up
+same_tenths : (x y x' y' : ℤ) → x ≡ x' → y ≡ y'
+    → from_tenths (record { x = x; y = y }) ≡ tenth (record { x = x'; y = y'; over = pos 1; positive = record { le = tt } })
+unfolding tenth
+same_tenths x y x' y' across up = ap₂ (λ x y. from_tenths (record { x = x; y = y })) across up
 
--- the first end below the surface is the tip's place at a moment below it
+-- the end below the surface is the tip's place at a moment below it, in grid units
 pub record IsDeepEnd (mv : Move) (p : GridPoint) : Type 0 where
   pub moment : Moment
   pub deep : pos 0 <ℤ depth_at mv moment
-  pub same : rational p ≡ place_at mv moment
+  pub same : from_tenths p ≡ tenth (place_at mv moment)
 
 deep_first : (mv : Move) → 0 < depth_of mv.from.h → IsDeepEnd mv mv.from.at
 deep_first mv deep =
@@ -150,7 +152,7 @@ deep_first mv deep =
     record {
       moment = first;
       deep = omega (arith, ints);
-      same = same_rational _ _ _ _ (at_first mv.from.at.x mv.to.at.x) (at_first mv.from.at.y mv.to.at.y);
+      same = same_tenths _ _ _ _ (at_first mv.from.at.x mv.to.at.x) (at_first mv.from.at.y mv.to.at.y);
     }
 
 deep_last : (mv : Move) → 0 < depth_of mv.to.h → IsDeepEnd mv mv.to.at
@@ -160,7 +162,7 @@ deep_last mv deep =
     record {
       moment = last;
       deep = omega (arith, ints);
-      same = same_rational _ _ _ _ (at_last mv.from.at.x mv.to.at.x) (at_last mv.from.at.y mv.to.at.y);
+      same = same_tenths _ _ _ _ (at_last mv.from.at.x mv.to.at.x) (at_last mv.from.at.y mv.to.at.y);
     }
 
 pub deep_end : (mv : Move) → IsDeep mv → IsDeepEnd mv (first_deep mv)

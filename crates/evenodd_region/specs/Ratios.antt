@@ -4,6 +4,7 @@ use Rattle.integer_algebra.specs.Ranges.{IsUpTo}
 use Rattle.plane_exact.specs.Plane.{GridPoint, RationalPoint}
 use Rattle.evenodd_region.specs.declared.ratio.RatioPoint.{RatioPoint}
 
+-- the point as definitions see it
 abbrev pub rational_of : RatioPoint → RationalPoint
 rational_of p = record { x = p.x; y = p.y; over = p.over; positive = p.range.positive }
 

@@ -5,7 +5,7 @@ use Rattle.grid_num.specs.Judging.{and_then}
 use Rattle.grid_num.specs.declared.units.Units.{Units}
 use Rattle.plane_exact.specs.Heights.{GridPlace}
 use Rattle.plane_exact.specs.declared.moves.LineMove.{LineMove}
-use Rattle.gcode_text.specs.Moves.{in_line, is_below, judge_move, move_between, moved, moves_of, place_of}
+use Rattle.gcode_text.specs.Moves.{in_line, is_below, judge_move, move_between, moved, moves_of, spot_of}
 use Rattle.gcode_text.specs.Stepping.{IfFailed, IfMoved, IsAfter, and_turn, behind_line, block_of, ended_line, last_in, last_move, move_of_line, moves_at_end, moves_reported, next, next_in, start_of, turn_by, turn_in, turn_of, with_byte}
 use Rattle.gcode_text.specs.declared.block.Block.{Block}
 use Rattle.gcode_text.specs.declared.fault.CodeFault.{CodeFault}
@@ -72,24 +72,24 @@ placed_by false false true line None (Some to) mv is = absurd (cc)
 placed_by false false true line (Some from) None mv is = absurd (cc)
 placed_by false false true line (Some from) (Some to) mv is = refl
 
-placed : (line count : ℕ) (old : Position) (read : Result Block CodeKind) (block : Block) (mv : LineMove) → in_line {A = Block × Option LineMove} line (and_then read (λ block. and_then (judge_move line count old block) (λ mv. Ok (block, mv)))) ≡ Ok (block, Some mv) → is_some (place_of (moved old block)) ≡ true
+placed : (line count : ℕ) (old : Position) (read : Result Block CodeKind) (block : Block) (mv : LineMove) → in_line {A = Block × Option LineMove} line (and_then read (λ block. and_then (judge_move line count old block) (λ mv. Ok (block, mv)))) ≡ Ok (block, Some mv) → is_some (spot_of (moved old block)) ≡ true
 placed line count old (Err fault) block mv is = absurd (cc)
 placed line count old (Ok read) block mv is = by_move (judge_move line count old read) refl is
   where
-    by_move : (judged : Result (Option LineMove) CodeKind) → judge_move line count old read ≡ judged → in_line {A = Block × Option LineMove} line (and_then judged (λ mv. Ok (read, mv))) ≡ Ok (block, Some mv) → is_some (place_of (moved old block)) ≡ true
+    by_move : (judged : Result (Option LineMove) CodeKind) → judge_move line count old read ≡ judged → in_line {A = Block × Option LineMove} line (and_then judged (λ mv. Ok (read, mv))) ≡ Ok (block, Some mv) → is_some (spot_of (moved old block)) ≡ true
     by_move (Err fault) judged_is is = absurd (cc)
     by_move (Ok found) judged_is is =
         let pair : ◌≡◌ {A = Block × Option LineMove} (read, found) (block, Some mv) = cc is in
         let same : read ≡ block = ap (λ (p : Block × Option LineMove). p.0) pair in
         let found_is : found ≡ Some mv = ap (λ (p : Block × Option LineMove). p.1) pair in
-        ap (λ b. is_some (place_of (moved old b))) (sym same) ∙ placed_by _ _ _ line (place_of old) (place_of (moved old read)) mv (judged_is ∙ ap Ok found_is)
+        ap (λ b. is_some (spot_of (moved old b))) (sym same) ∙ placed_by _ _ _ line (spot_of old) (spot_of (moved old read)) mv (judged_is ∙ ap Ok found_is)
 
 and_false : (b : Bool) → (b && false) ≡ false
 and_false true = refl
 and_false false = refl
 
 -- an empty line gives no move, where every coordinate is known
-empty_line : (units : Units) (line count : ℕ) (old : Position) → is_some (place_of old) ≡ true → move_of_line (in_line {A = Block × Option LineMove} line (and_then (block_of units false []) (λ block. and_then (judge_move line count old block) (λ mv. Ok (block, mv))))) ≡ Ok None
+empty_line : (units : Units) (line count : ℕ) (old : Position) → is_some (spot_of old) ≡ true → move_of_line (in_line {A = Block × Option LineMove} line (and_then (block_of units false []) (λ block. and_then (judge_move line count old block) (λ mv. Ok (block, mv))))) ≡ Ok None
 empty_line units line count old known = rw (known, and_false (is_below old.z)) refl
 
 moved_line : (s : State) (ended : Ended) (mv : LineMove) → s.phase ≡ phase.Open → ended_line s ≡ ended → turn_by (move_of_line ended) ≡ turn.Moved mv → last_move (behind_line s ended) ≡ Ok None
@@ -97,7 +97,7 @@ moved_line s (Err fault) mv open_phase ended_is is = absurd (cc)
 moved_line s (Ok (block, None)) mv open_phase ended_is is = absurd (cc)
 moved_line s (Ok (block, Some other)) mv open_phase ended_is is = by_last block.last
   where
-    known : is_some (place_of (moved s.position block)) ≡ true
+    known : is_some (spot_of (moved s.position block)) ≡ true
     known = placed s.line s.moves s.position (block_of s.units s.is_long s.bytes.items) block other ended_is
 
     by_last : (is_last : Bool) → last_in (cond is_last phase.Ended s.phase) (record s { line = s.line + 1; moves = s.moves + 1; position = moved s.position block; bytes = record { items = [] }; is_long = false; phase = cond is_last phase.Ended s.phase }) ≡ Ok None

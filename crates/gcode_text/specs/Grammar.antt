@@ -1,5 +1,5 @@
 -- The grammar of a line: what stands outside its comments, its words, and the block that the words make, judged from the left.
-use Rattle.std.specs.Prelude.{ℕ, ◌-◌, Bool, true, false, ◌&&◌, ◌||◌, if◌then◌else◌, Option, Some, None, List, [], ◌∷◌, option_map, nat_le, ◌==◌, not, ℤ, pos, negsuc, int_le, codes, is_some, Result, Ok, Err}
+use Rattle.std.specs.Prelude.{ℕ, ◌-◌, ◌*◌, Bool, true, false, ◌&&◌, ◌||◌, if◌then◌else◌, Option, Some, None, List, [], ◌∷◌, option_map, nat_le, ◌==◌, not, ℤ, pos, negsuc, int_le, codes, is_some, Result, Ok, Err}
 use Rattle.std.specs.Char.{is_ascii_digit}
 use Rattle.text_lines.specs.Pieces.{is_blank}
 use Rattle.std.specs.List.{list_any}
@@ -90,17 +90,17 @@ judge_m block number =
 abbrev pub in_range : ℤ → ℤ → ℤ → Result ℤ CodeKind
 in_range low high z = if int_le low z && int_le z high then Ok z else Err kind.OutOfRange
 
--- a number of grid units from low to high
-abbrev pub grid_units : Units → ℤ → ℤ → PlainNumber → Result ℤ CodeKind
-grid_units units low high number = and_then (or_kind kind.OffGrid (times_scale (per_unit_of units) number)) (in_range low high)
+-- a number in tenths of a grid unit
+abbrev pub tenths_of : Units → PlainNumber → Result ℤ CodeKind
+tenths_of units number = or_kind kind.OffGrid (times_scale (10 * per_unit_of units) number)
 
--- X and Y, in grid units
+-- X and Y, in tenths of a grid unit: from -327,680 to 327,670
 abbrev pub coordinate : Units → PlainNumber → Result ℤ CodeKind
-coordinate units number = grid_units units (negsuc 32767) (pos 32767) number
+coordinate units number = and_then (tenths_of units number) (in_range (negsuc 327679) (pos 327670))
 
--- Z, in grid units
+-- Z, in tenths of a grid unit: from -327,670 to 327,670
 abbrev pub height : Units → PlainNumber → Result ℤ CodeKind
-height units number = grid_units units (negsuc 32766) (pos 32767) number
+height units number = and_then (tenths_of units number) (in_range (negsuc 327669) (pos 327670))
 
 -- a letter that stands once in a line, and the block with it
 abbrev pub once : Bool → Result Block CodeKind → Result Block CodeKind

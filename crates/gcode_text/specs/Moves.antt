@@ -43,27 +43,27 @@ latest old (Some new) = Some new
 abbrev pub moved : Position → Block → Position
 moved old block = record { x = latest old.x block.x; y = latest old.y block.y; z = latest old.z block.z }
 
--- the place of these coordinates, where each is known
-abbrev pub place_from : Option ℤ → Option ℤ → Option ℤ → Option GridPlace
-place_from (Some x) (Some y) (Some z) = Some (record { at = record { x = x; y = y }; h = z })
-place_from _ _ _ = None
+-- the spot of these coordinates, where each is known
+abbrev pub spot_from : Option ℤ → Option ℤ → Option ℤ → Option GridPlace
+spot_from (Some x) (Some y) (Some z) = Some (record { at = record { x = x; y = y }; h = z })
+spot_from _ _ _ = None
 
--- the place, where every coordinate is known
-abbrev pub place_of : Position → Option GridPlace
-place_of position = place_from position.x position.y position.z
+-- the spot, where every coordinate is known
+abbrev pub spot_of : Position → Option GridPlace
+spot_of position = spot_from position.x position.y position.z
 
 -- some word is a coordinate
 abbrev pub names_place : Block → Bool
 names_place block = is_some block.x || is_some block.y || is_some block.z
 
--- the move from one place to the other, where both are known
+-- the move from one spot to the other, where both are known
 abbrev pub move_between : ℕ → Option GridPlace → Option GridPlace → Option LineMove
 move_between line (Some from) (Some to) = Some (record { line = line; mv = record { from = from; to = to } })
 move_between line _ _ = None
 
 -- the line's move, if its words name a coordinate and all were known before it
 abbrev pub move_of : ℕ → Position → Block → Option LineMove
-move_of line old block = if names_place block then move_between line (place_of old) (place_of (moved old block)) else None
+move_of line old block = if names_place block then move_between line (spot_of old) (spot_of (moved old block)) else None
 
 -- a height that is known and below the surface
 abbrev pub is_below : Option ℤ → Bool
@@ -74,8 +74,8 @@ is_below (Some z) = int_lt z (pos 0)
 -- surface before its place was known
 abbrev pub judge_move : ℕ → ℕ → Position → Block → Result (Option LineMove) CodeKind
 judge_move line count old block =
-    if is_below (moved old block).z && not (is_some (place_of old)) then Err kind.Unplaced
-    else if names_place block && is_some (place_of old) && nat_le MOST_MOVES count then Err kind.TooMany
+    if is_below (moved old block).z && not (is_some (spot_of old)) then Err kind.Unplaced
+    else if names_place block && is_some (spot_of old) && nat_le MOST_MOVES count then Err kind.TooMany
     else Ok (move_of line old block)
 
 -- the block of a line, and its move

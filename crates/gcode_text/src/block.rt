@@ -3,10 +3,55 @@ ghost use Rattle.std.specs.Prelude.{◌≡◌, ◌↔◌, IsSome, IfSome};
 
 use std::marker::Model;
 
-/// A height of the bit's tip in grid units, from -32,767 to 32,767.
+/// A coordinate of the bit's tip in tenths of a grid unit, from -327,680 to 327,670.
+#[derive(Clone, Copy)]
+pub struct Coordinate {
+    tenths: i32,
+}
+
+impl Model for Coordinate {
+    ghost use Rattle.std.specs.Prelude.{ℤ};
+    ghost use Rattle.plane_exact.specs.Heights.{IsFineCoordinate};
+
+    ghost Value = { ℤ };
+
+    ghost view = { λ z. z.tenths };
+
+    ghost invariant = { λ z. IsFineCoordinate z.tenths };
+
+    ghost inverse = { λ z. record { tenths = z } };
+}
+
+impl Coordinate {
+    ghost use Rattle.plane_exact.specs.Heights.{IsFineCoordinate};
+
+    /// The coordinate of so many tenths, or None where that is out of range.
+    pub fn new(tenths: i128) -> Option<Coordinate>
+        ensures range { IsSome result ↔ IsFineCoordinate tenths }
+        ensures value { IfSome result (λ z. z ≡ tenths) }
+    {
+        if -327_680 <= tenths && tenths <= 327_670 {
+            Some(Coordinate {
+                tenths: tenths as i32,
+            })
+        } else {
+            None
+        }
+    }
+
+    /// The coordinate in tenths of a grid unit.
+    pub fn tenths(self) -> i32
+        ensures value { result ≡ self }
+        ensures range { IsFineCoordinate self }
+    {
+        self.tenths
+    }
+}
+
+/// A height of the bit's tip in tenths of a grid unit, from -327,670 to 327,670.
 #[derive(Clone, Copy)]
 pub struct Height {
-    units: i16,
+    tenths: i32,
 }
 
 impl Model for Height {
@@ -15,36 +60,36 @@ impl Model for Height {
 
     ghost Value = { ℤ };
 
-    ghost view = { λ h. h.units };
+    ghost view = { λ z. z.tenths };
 
-    ghost invariant = { λ h. IsHeight h.units };
+    ghost invariant = { λ z. IsHeight z.tenths };
 
-    ghost inverse = { λ z. record { units = z } };
+    ghost inverse = { λ z. record { tenths = z } };
 }
 
 impl Height {
     ghost use Rattle.plane_exact.specs.Heights.{IsHeight};
 
-    /// The height of so many grid units, or None where that is out of range.
-    pub fn new(grid_units: i128) -> Option<Height>
-        ensures range { IsSome result ↔ IsHeight grid_units }
-        ensures value { IfSome result (λ h. h ≡ grid_units) }
+    /// The height of so many tenths, or None where that is out of range.
+    pub fn new(tenths: i128) -> Option<Height>
+        ensures range { IsSome result ↔ IsHeight tenths }
+        ensures value { IfSome result (λ z. z ≡ tenths) }
     {
-        if -32_767 <= grid_units && grid_units <= 32_767 {
+        if -327_670 <= tenths && tenths <= 327_670 {
             Some(Height {
-                units: grid_units as i16,
+                tenths: tenths as i32,
             })
         } else {
             None
         }
     }
 
-    /// The height in grid units.
-    pub fn units(self) -> i32
+    /// The height in tenths of a grid unit.
+    pub fn tenths(self) -> i32
         ensures value { result ≡ self }
         ensures range { IsHeight self }
     {
-        i32::from(self.units)
+        self.tenths
     }
 }
 
@@ -58,9 +103,8 @@ pub struct Block {
     pub p: bool,
     /// Whether there is a G0 or G1.
     pub motion: bool,
-    /// Coordinates in grid units.
-    pub x: Option<i16>,
-    pub y: Option<i16>,
+    pub x: Option<Coordinate>,
+    pub y: Option<Coordinate>,
     pub z: Option<Height>,
     /// Whether there is an M2 or M30.
     pub last: bool,

@@ -1,9 +1,9 @@
 // Judges the words of a line in turn, from the left.
 ghost use Rattle.std.specs.Prelude.{◌≡◌, true, false, MatchResult};
-ghost use Rattle.gcode_text.specs.Grammar.{coordinate, empty_block, height, is_one_of, judge_g, judge_m, judge_other, judge_unused, judge_word, judge_words, line_words};
+ghost use Rattle.gcode_text.specs.Grammar.{coordinate, empty_block, height, is_one_of, judge_g, judge_m, judge_other, judge_unused, judge_word, judge_words, line_words, tenths_of};
 ghost use Rattle.gcode_text.specs.Words.{word_of};
 
-use crate::block::{Block, Height};
+use crate::block::{Block, Coordinate, Height};
 use crate::fault::CodeKind;
 use crate::words::{Word, first_word};
 use grid_num::{Decimal, Units};
@@ -150,20 +150,25 @@ fn is_any(number: &Decimal, tenths: &[u32]) -> bool
     tenths.iter().any(|tenth| number.is_tenths(*tenth))
 }
 
-fn read_coordinate(units: Units, number: &Decimal) -> Result<i16, CodeKind>
+fn read_coordinate(units: Units, number: &Decimal) -> Result<Coordinate, CodeKind>
     ensures { result ≡ coordinate units number.now }
 {
-    let grid_units = number
-        .times_scale(units.per_unit())
-        .map_err(|_| CodeKind::OffGrid)?;
-    i16::try_from(grid_units).map_err(|_| CodeKind::OutOfRange)
+    let tenths = read_tenths(units, number)?;
+    Coordinate::new(tenths).ok_or(CodeKind::OutOfRange)
 }
 
 fn read_height(units: Units, number: &Decimal) -> Result<Height, CodeKind>
     ensures { result ≡ height units number.now }
 {
-    let grid_units = number
-        .times_scale(units.per_unit())
-        .map_err(|_| CodeKind::OffGrid)?;
-    Height::new(grid_units).ok_or(CodeKind::OutOfRange)
+    let tenths = read_tenths(units, number)?;
+    Height::new(tenths).ok_or(CodeKind::OutOfRange)
+}
+
+// The number in tenths of a grid unit.
+fn read_tenths(units: Units, number: &Decimal) -> Result<i128, CodeKind>
+    ensures { result ≡ tenths_of units number.now }
+{
+    number
+        .times_scale(10 * units.per_unit())
+        .map_err(|_| CodeKind::OffGrid)
 }

@@ -2,23 +2,23 @@
 ghost use Rattle.std.specs.Prelude.{◌≡◌};
 ghost use Rattle.gcode_text.specs.Moves.{judge_move, names_place};
 
-use crate::block::{Block, Height};
+use crate::block::{Block, Coordinate, Height};
 use crate::fault::CodeKind;
-use plane_exact::{LineMove, Move, Place, Point};
+use plane_exact::{LineMove, Move, Spot};
 
 /// The most moves of a program.
 pub const MOST_MOVES: u32 = 8_388_608;
 
-/// The coordinates that are known, in grid units.
+/// The coordinates that are known.
 #[derive(Clone, Copy)]
 pub struct Position {
-    pub x: Option<i16>,
-    pub y: Option<i16>,
+    pub x: Option<Coordinate>,
+    pub y: Option<Coordinate>,
     pub z: Option<Height>,
 }
 
 impl Position {
-    ghost use Rattle.gcode_text.specs.Moves.{is_below, moved, nowhere, place_of};
+    ghost use Rattle.gcode_text.specs.Moves.{is_below, moved, nowhere, spot_of};
 
     /// No coordinate is known.
     pub fn nowhere() -> Position
@@ -42,13 +42,15 @@ impl Position {
         }
     }
 
-    // The place, where every coordinate is known.
-    fn place(&self) -> Option<Place>
-        ensures { result ≡ place_of self.now }
+    // The spot, where every coordinate is known.
+    fn spot(&self) -> Option<Spot>
+        ensures { result ≡ spot_of self.now }
     {
-        let at = Point::new(i64::from(self.x?), i64::from(self.y?))?;
-        let h = self.z?.units();
-        Some(Place { at, h })
+        Some(Spot {
+            x: self.x?.tenths(),
+            y: self.y?.tenths(),
+            h: self.z?.tenths(),
+        })
     }
 
     // Whether the height is known and below the surface.
@@ -56,7 +58,7 @@ impl Position {
         ensures { result ≡ is_below self.now.z }
     {
         match self.z {
-            Some(z) => z.units() < 0,
+            Some(z) => z.tenths() < 0,
             None => false,
         }
     }
@@ -74,7 +76,7 @@ pub fn judge_move(
     ensures { result ≡ judge_move line count old.now block.now }
 {
     let new = old.moved(block);
-    let Some(from) = old.place() else {
+    let Some(from) = old.spot() else {
         return if new.is_below() {
             Err(CodeKind::Unplaced)
         } else {
@@ -87,7 +89,7 @@ pub fn judge_move(
     if count >= MOST_MOVES {
         return Err(CodeKind::TooMany);
     }
-    let Some(to) = new.place() else {
+    let Some(to) = new.spot() else {
         return Ok(None);
     };
     Ok(Some(LineMove {

@@ -5,8 +5,6 @@ use Rattle.std.proofs.lemmas.List.Elements.{All-cons, All-nil}
 use Rattle.plane_exact.specs.Cone.{Cone}
 use Rattle.plane_exact.specs.Plane.{GridPoint}
 use Rattle.plane_exact.specs.declared.moves.LineMove.{LineMove}
-use Rattle.plane_exact.specs.declared.moves.Move.{Move}
-use Rattle.engrave_model.specs.Clear.{IsClear}
 use Rattle.engrave_model.specs.Drawing.{edges_of}
 use Rattle.engrave_model.specs.Removal.{IsSafe, IsSafeCode}
 use Rattle.depth_rule.proofs.Safety.{clear_is_safe}

@@ -5,10 +5,10 @@ use Rattle.std.proofs.lemmas.List.{drop_more}
 use Rattle.plane_exact.specs.Cone.{Cone}
 use Rattle.plane_exact.specs.declared.moves.LineMove.{LineMove}
 use Rattle.plane_exact.specs.declared.point.Seg.{Seg}
-use Rattle.engrave_model.specs.Clear.{IsClear}
+use Rattle.swept_move.specs.Clear.{IsClear}
 use Rattle.gouge_checker.specs.Verdict.{IsFaultOf, IsVerdict, IsVerdictOfMove}
 use Rattle.gouge_checker.specs.declared.verdict.Verdict.{Verdict}
-use Rattle.gouge_checker.specs.declared.verdict.Verdict.TheVariants.{Clear, TooDeep, Slant, Gouge, Outside}
+use Rattle.gouge_checker.specs.declared.verdict.Verdict.TheVariants.{Clear, TooDeep, Gouge, Outside}
 
 -- a verdict on the moves from the i-th on is one on all of them
 abbrev pub IsDecidedBy : List Seg → Cone → List LineMove → ℕ → Type 0
@@ -18,7 +18,6 @@ pub fault_of : (edges : List Seg) (cone : Cone) (move : LineMove) (verdict : Ver
     → IsVerdictOfMove edges cone move verdict → IsFaultOf edges cone move verdict
 fault_of edges cone move Clear other is = absurd (other refl)
 fault_of edges cone move (TooDeep line) other is = is
-fault_of edges cone move (Slant line) other is = is
 fault_of edges cone move (Gouge line edge) other is = is
 fault_of edges cone move (Outside line) other is = is
 

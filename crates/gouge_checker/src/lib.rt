@@ -1,7 +1,7 @@
 //! Verdicts on G-code programs: that every move is clear, or what is wrong with the first that isn't.
 //!
-//! Its promise is in the clauses of `check`: `verdict`, exactly which, and `safe`, that a program called clear removes no point
-//! outside the drawing, at any moment.
+//! Its promise is in the clauses of `check`: `verdict`, exactly which; `safe`, that a program called clear removes no point
+//! outside the drawing, at any moment; `exact` and `harm`, that no alarm is false.
 #![tactic(auto)]
 
 mod verdict;

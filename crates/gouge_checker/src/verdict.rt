@@ -1,21 +1,20 @@
-// The verdict on the moves of a code.
-ghost use Rattle.std.specs.Prelude.{◌≡◌};
+// The verdict on the moves of a G-code program.
+ghost use Rattle.std.specs.Prelude.{◌≡◌, ◌↔◌};
 ghost use Rattle.engrave_model.specs.Drawing.{edges_of};
 ghost use Rattle.engrave_model.specs.Removal.{IsSafeCode};
+ghost use Rattle.gouge_checker.specs.Harm.{IsFit, IsTrueNo};
 ghost use Rattle.gouge_checker.specs.Verdict.{IsVerdict, IsVerdictOfMove};
 
-use depth_rule::{Met, Scene, first_met, is_slant};
+use depth_rule::{Met, Scene, first_met};
 use plane_exact::{Bit, LineMove};
 
-/// What `check` says of code: `line` counts from 1, `edge` from 0.
+/// What `check` says of a G-code program: `line` counts from 1, `edge` from 0.
 #[derive(Clone, Copy, Debug, PartialEq, Eq)]
 pub enum Verdict {
     /// Every move is clear.
     Clear,
     /// At an end of this line's move the bit would be wider than its greatest radius.
     TooDeep { line: u32 },
-    /// This line's move passes through the surface sideways.
-    Slant { line: u32 },
     /// A test of this line's move fails against this edge, and against none before it.
     Gouge { line: u32, edge: u32 },
     /// The first end of this line's move that is below the surface isn't inside.
@@ -23,11 +22,17 @@ pub enum Verdict {
 }
 
 /// The verdict on the moves: what is wrong with the first that isn't clear, or that all are. Where it is `Clear`, no moment
-/// of any move removes a point outside the drawing. It takes no memory.
+/// of any move removes a point outside the drawing; where it is a gouge or outside, a moment of the named move does. It takes no
+/// memory.
+// One function has the loop and one the promise, so that the loop's proof speaks of verdicts alone.
 pub fn check(scene: &Scene, bit: &Bit, moves: &[LineMove]) -> Verdict
-    ensures verdict { IsVerdict (edges_of scene.now) bit.now moves.now result }
     ensures safe { result ≡ Verdict.Clear → IsSafeCode (edges_of scene.now) bit.now moves.now }
+    ensures exact { (result ≡ Verdict.Clear) ↔ IsFit (edges_of scene.now) bit.now moves.now }
+    ensures harm { IsTrueNo (edges_of scene.now) bit.now moves.now result }
+    ensures verdict { IsVerdict (edges_of scene.now) bit.now moves.now result }
 {
+    // That the bit has some width is known from its slope.
+    let _slope = bit.sn();
     find_verdict(scene, bit, moves)
 }
 
@@ -53,8 +58,6 @@ fn judge(scene: &Scene, bit: &Bit, line_move: &LineMove) -> Verdict
         Verdict::Clear
     } else if mv.is_too_deep(bit) {
         Verdict::TooDeep { line }
-    } else if is_slant(mv) {
-        Verdict::Slant { line }
     } else {
         match first_met(scene, bit, mv) {
             Met::Edge(edge) => Verdict::Gouge { line, edge },

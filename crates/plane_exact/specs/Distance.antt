@@ -2,6 +2,7 @@
 use Rattle.std.specs.Prelude.{ℤ, ◌+ℤ◌, ◌-ℤ◌, ◌*ℤ◌, ◌≤ℤ◌, ◌<ℤ◌}
 use Rattle.plane_exact.specs.Plane.{RationalPoint}
 
+-- a number times itself
 abbrev pub square : ℤ → ℤ
 square z = z *ℤ z
 

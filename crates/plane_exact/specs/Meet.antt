@@ -38,6 +38,7 @@ pub record HasMore (s t : Seg) : Type 0 where
   pub also : IsCommon s t other
   pub differ : ¬ IsSame point other
 
+-- how the segments meet, by each of the answers
 abbrev pub IsMeet : Seg → Seg → Meet → Type 0
 IsMeet s t Apart = (w : RationalPoint) → ¬ IsCommon s t w
 IsMeet s t AtEnds = HasOne s t (IsEndOfBoth s t)

@@ -1,4 +1,5 @@
--- What is asked of a move and a bit: how deep the ends are, and whether the bit is too wide there.
+-- What is asked of a move and a bit: how deep the ends are, and whether the bit is too wide there. Moves are in tenths of a grid
+-- unit.
 use Rattle.std.specs.Prelude.{ℕ, suc, ◌*◌, ◌<◌, ◌⊎◌, ℤ, pos, negsuc, if◌then◌else◌, nat_lt}
 use Rattle.plane_exact.specs.Cone.{Cone}
 use Rattle.plane_exact.specs.Plane.{GridPoint}
@@ -13,14 +14,14 @@ depth_of (negsuc n) = suc n
 abbrev pub IsDeep : Move → Type 0
 IsDeep mv = (0 < depth_of mv.from.h) ⊎ (0 < depth_of mv.to.h)
 
--- at the depth the bit is wider than its greatest radius
+-- at the depth, in tenths, the bit is wider than its greatest radius, which is in grid units
 abbrev pub IsTooWide : Cone → ℕ → Type 0
-IsTooWide cone z = cone.sd * cone.rmax < cone.sn * z
+IsTooWide cone z = 10 * (cone.sd * cone.rmax) < cone.sn * z
 
 -- at one of the ends the bit is wider than its greatest radius
 abbrev pub IsTooDeep : Cone → Move → Type 0
 IsTooDeep cone mv = IsTooWide cone (depth_of mv.from.h) ⊎ IsTooWide cone (depth_of mv.to.h)
 
--- the place of the first end that is below the surface; of the last end where none is
+-- the place, in tenths, of the first end that is below the surface; of the last end where none is
 abbrev pub first_deep : Move → GridPoint
 first_deep mv = if nat_lt 0 (depth_of mv.from.h) then mv.from.at else mv.to.at

@@ -16,7 +16,7 @@ mod segment;
 pub use bit::{Bit, MOST_RADIUS, MOST_SLOPE};
 pub use distance::dist_at_least;
 pub use meet::{Meet, cross_kind};
-pub use moves::{LineMove, MOST_DEPTH, Move, Place};
+pub use moves::{LineMove, MOST_DEPTH, MOST_SPOT_DEPTH, Move, Spot};
 pub use point::{Point, Seg};
 pub use product::{cross, dot};
 pub use segment::passes_through;

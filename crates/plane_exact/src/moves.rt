@@ -4,47 +4,50 @@ ghost use Rattle.plane_exact.specs.Heights.{IsHeight};
 ghost use Rattle.plane_exact.specs.Moves.{IsDeep, IsTooDeep, IsTooWide, depth_of, first_deep};
 
 use crate::bit::Bit;
-use crate::point::Point;
 use std::marker::Model;
 
-/// The greatest height of a place above the surface, and its greatest depth below it, in grid units.
+/// The greatest depth that is asked for, in grid units.
 pub const MOST_DEPTH: u32 = 32_767;
 
-/// A place of the bit's tip: over a grid point, at the height `h` in grid units, from -32,767 to 32,767.
-/// The surface is at the height 0.
+/// The greatest height of a spot above the surface, and its greatest depth below it, in tenths of a grid unit.
+pub const MOST_SPOT_DEPTH: u32 = 327_670;
+
+/// Where the bit's tip is, in tenths of a grid unit: `x` and `y` from -327,680 to 327,670, and the height `h` above the
+/// surface, from -327,670 to 327,670.
 #[derive(Clone, Copy, Debug, PartialEq, Eq)]
-pub struct Place {
-    pub at: Point,
+pub struct Spot {
+    pub x: i32,
+    pub y: i32,
     pub h: i32,
 }
 
-impl Model for Place {
-    ghost use Rattle.plane_exact.specs.Heights.{GridPlace, IsHeight};
+impl Model for Spot {
+    ghost use Rattle.plane_exact.specs.Heights.{GridPlace, IsSpot};
 
     ghost Value = { GridPlace };
 
-    ghost view = { λ p. record { at = p.at; h = p.h } };
+    ghost view = { λ p. record { at = record { x = p.x; y = p.y }; h = p.h } };
 
-    ghost invariant = { λ p. IsHeight p.h };
+    ghost invariant = { λ p. IsSpot p.x p.y p.h };
 
-    ghost inverse = { λ g. record { at = g.at; h = g.h } };
+    ghost inverse = { λ g. record { x = g.at.x; y = g.at.y; h = g.h } };
 }
 
-/// A straight move of the tip from one place to another, which may be the same.
-#[derive(Clone, Copy, Debug, PartialEq, Eq)]
-pub struct Move {
-    pub from: Place,
-    pub to: Place,
-}
-
-impl Place {
-    /// How deep the place is below the surface, in grid units: 0 from the surface up.
+impl Spot {
+    /// How deep the spot is below the surface, in tenths of a grid unit: 0 from the surface up.
     pub fn depth(&self) -> u32
         ensures value { result ≡ depth_of self.now.h }
-        ensures range { result ≤ MOST_DEPTH }
+        ensures range { result ≤ MOST_SPOT_DEPTH }
     {
         depth_of_height(self.h)
     }
+}
+
+/// A straight move of the tip from one spot to another, which may be the same.
+#[derive(Clone, Copy, Debug, PartialEq, Eq)]
+pub struct Move {
+    pub from: Spot,
+    pub to: Spot,
 }
 
 impl Move {
@@ -62,15 +65,11 @@ impl Move {
         is_too_wide(bit, self.from.depth()) || is_too_wide(bit, self.to.depth())
     }
 
-    /// The place of the first end that is below the surface; of the last end where none is.
-    pub fn first_deep_end(&self) -> Point
-        ensures { result ≡ first_deep self.now }
+    /// The first end that is below the surface; the last end where none is.
+    pub fn first_deep_end(&self) -> Spot
+        ensures { result.at ≡ first_deep self.now }
     {
-        if self.from.h < 0 {
-            self.from.at
-        } else {
-            self.to.at
-        }
+        if self.from.h < 0 { self.from } else { self.to }
     }
 }
 
@@ -78,17 +77,17 @@ impl Move {
 fn depth_of_height(h: i32) -> u32
     requires { IsHeight h }
     ensures value { result ≡ depth_of h }
-    ensures range { result ≤ MOST_DEPTH }
+    ensures range { result ≤ MOST_SPOT_DEPTH }
 {
     if h < 0 { h.unsigned_abs() } else { 0 }
 }
 
-// Whether the bit is wider than its greatest radius at the depth.
+// Whether the bit is wider than its greatest radius at the depth, in tenths of a grid unit.
 fn is_too_wide(bit: &Bit, z: u32) -> bool
-    requires { z ≤ MOST_DEPTH }
+    requires { z ≤ MOST_SPOT_DEPTH }
     ensures { IsTrue result ↔ IsTooWide bit.now z }
 {
-    bit.sd() * bit.rmax() < bit.sn() * z
+    10 * (bit.sd() * bit.rmax()) < bit.sn() * z
 }
 
 /// A move with the number, from 1, of the line of code that asks for it.

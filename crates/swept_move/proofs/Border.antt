@@ -6,18 +6,19 @@ use Rattle.integer_algebra.proofs.Order.{sign_of_pos}
 use Rattle.plane_exact.specs.Cone.{Cone}
 use Rattle.plane_exact.specs.Distance.{square}
 use Rattle.plane_exact.specs.Plane.{GridPoint, RationalPoint, IsBetween}
-use Rattle.plane_exact.specs.declared.moves.Move.{Move}
 use Rattle.plane_exact.specs.declared.point.Seg.{Seg}
-use Rattle.plane_exact.specs.Moves.{depth_of}
-use Rattle.engrave_model.specs.Clear.{Quadratic, corner_margin, IsNowhereNegative}
 use Rattle.engrave_model.specs.Depth.{IsEdgeClear}
-use Rattle.swept_move.proofs.Quadratic.{value_at, nowhere_negative}
+use Rattle.swept_move.specs.Part.{value_at}
 use Rattle.swept_move.proofs.Hits.{IsNear, deep}
 
 -- ---- an end of the edge: N^2 times the corner's margin is how much farther than the radius it is
 
+-- n^2 times the value of a s^2 + b s + c at s = k / n
+abbrev value_of : (a b c k n : ℤ) → ℤ
+value_of a b c k n = value_at (record { a = a; b = b; c = c }) k n
+
 pub margin_value : (Q R ux uy qx qy z descent S N : ℤ)
-    → value_at (Q *ℤ (qx *ℤ qx +ℤ qy *ℤ qy) -ℤ R *ℤ (descent *ℤ descent)) (pos 2 *ℤ (Q *ℤ (ux *ℤ qx +ℤ uy *ℤ qy) -ℤ R *ℤ (z *ℤ descent))) (Q *ℤ (ux *ℤ ux +ℤ uy *ℤ uy) -ℤ R *ℤ (z *ℤ z)) S N
+    → value_of (Q *ℤ (qx *ℤ qx +ℤ qy *ℤ qy) -ℤ R *ℤ (descent *ℤ descent)) (pos 2 *ℤ (Q *ℤ (ux *ℤ qx +ℤ uy *ℤ qy) -ℤ R *ℤ (z *ℤ descent))) (Q *ℤ (ux *ℤ ux +ℤ uy *ℤ uy) -ℤ R *ℤ (z *ℤ z)) S N
     ≡ Q *ℤ ((N *ℤ ux +ℤ S *ℤ qx) *ℤ (N *ℤ ux +ℤ S *ℤ qx) +ℤ (N *ℤ uy +ℤ S *ℤ qy) *ℤ (N *ℤ uy +ℤ S *ℤ qy)) -ℤ R *ℤ ((N *ℤ z +ℤ S *ℤ descent) *ℤ (N *ℤ z +ℤ S *ℤ descent))
 margin_value Q R ux uy qx qy z descent S N =
     let x = V 9 ⊗ V 2 ⊕ V 8 ⊗ V 4 in
@@ -29,8 +30,8 @@ margin_value Q R ux uy qx qy z descent S N =
     ⊕ (V 0 ⊗ (V 2 ⊗ V 2 ⊕ V 3 ⊗ V 3) ⊖ V 1 ⊗ (V 6 ⊗ V 6)) ⊗ (V 9 ⊗ V 9))
     (V 0 ⊗ (x ⊗ x ⊕ y ⊗ y) ⊖ V 1 ⊗ (depth ⊗ depth)) tt
 
-corner_off : (Q R ux uy qx qy z descent S N X Y : ℤ)
-    → pos 0 ≤ℤ value_at (Q *ℤ (qx *ℤ qx +ℤ qy *ℤ qy) -ℤ R *ℤ (descent *ℤ descent)) (pos 2 *ℤ (Q *ℤ (ux *ℤ qx +ℤ uy *ℤ qy) -ℤ R *ℤ (z *ℤ descent))) (Q *ℤ (ux *ℤ ux +ℤ uy *ℤ uy) -ℤ R *ℤ (z *ℤ z)) S N
+pub corner_off : (Q R ux uy qx qy z descent S N X Y : ℤ)
+    → pos 0 ≤ℤ value_of (Q *ℤ (qx *ℤ qx +ℤ qy *ℤ qy) -ℤ R *ℤ (descent *ℤ descent)) (pos 2 *ℤ (Q *ℤ (ux *ℤ qx +ℤ uy *ℤ qy) -ℤ R *ℤ (z *ℤ descent))) (Q *ℤ (ux *ℤ ux +ℤ uy *ℤ uy) -ℤ R *ℤ (z *ℤ z)) S N
     → X ≡ N *ℤ ux +ℤ S *ℤ qx → Y ≡ N *ℤ uy +ℤ S *ℤ qy → ¬ IsNear Q R X Y (deep z descent S N)
 corner_off Q R ux uy qx qy z descent S N X Y margin ex ey near =
     let value = margin_value Q R ux uy qx qy z descent S N in
@@ -38,21 +39,9 @@ corner_off Q R ux uy qx qy z descent S N X Y margin ex ey near =
     let close = near.close in
     omega (arith, ints)
 
-module _ (cone : Cone) (mv : Move) (u : GridPoint) (clear : IsNowhereNegative (corner_margin cone mv u)) where
-  -- no disc on the way holds the corner u
-  pub corner_clear : (S N X Y : ℤ) → pos 0 ≤ℤ S → S ≤ℤ N
-      → X ≡ N *ℤ (mv.from.at.x -ℤ u.x) +ℤ S *ℤ (mv.to.at.x -ℤ mv.from.at.x)
-      → Y ≡ N *ℤ (mv.from.at.y -ℤ u.y) +ℤ S *ℤ (mv.to.at.y -ℤ mv.from.at.y)
-      → ¬ IsNear (square (pos cone.sd)) (square (pos cone.sn)) X Y (deep (pos (depth_of mv.from.h)) (pos (depth_of mv.to.h) -ℤ pos (depth_of mv.from.h)) S N)
-  corner_clear S N X Y start finish ex ey =
-      let q : Quadratic = corner_margin cone mv u in
-      corner_off (square (pos cone.sd)) (square (pos cone.sn)) (mv.from.at.x -ℤ u.x) (mv.from.at.y -ℤ u.y) (mv.to.at.x -ℤ mv.from.at.x) (mv.to.at.y -ℤ mv.from.at.y)
-      (pos (depth_of mv.from.h)) (pos (depth_of mv.to.h) -ℤ pos (depth_of mv.from.h)) S N X Y
-      (nowhere_negative q.a q.b q.c S N clear.start clear.finish start finish clear.between) ex ey
-
 -- ---- an end of the move: the disc there holds a point of the edge just where the place is a hit
 
-end_close : (sd sn z px py ax ay dx dy T N X Y : ℤ) → X ≡ N *ℤ (px -ℤ ax) -ℤ T *ℤ dx → Y ≡ N *ℤ (py -ℤ ay) -ℤ T *ℤ dy
+pub end_close : (sd sn z px py ax ay dx dy T N X Y : ℤ) → X ≡ N *ℤ (px -ℤ ax) -ℤ T *ℤ dx → Y ≡ N *ℤ (py -ℤ ay) -ℤ T *ℤ dy
     → (square sd *ℤ (X *ℤ X +ℤ Y *ℤ Y)) <ℤ (square sn *ℤ ((N *ℤ z) *ℤ (N *ℤ z)))
     → ((square ((N *ℤ ax +ℤ T *ℤ dx) *ℤ pos 1 -ℤ px *ℤ N) +ℤ square ((N *ℤ ay +ℤ T *ℤ dy) *ℤ pos 1 -ℤ py *ℤ N)) *ℤ square (sd *ℤ pos 1))
     <ℤ (square (sn *ℤ z) *ℤ square (pos 1 *ℤ N))

@@ -1,12 +1,23 @@
 -- The quick test: how far the bit stays from an edge that lies beside the path.
-use Rattle.std.proofs.Common.{◌≡◌, ◌↔◌, inl, inr, ℕ, ℤ, pos, ◌+ℤ◌, ◌-ℤ◌, ◌*ℤ◌, ◌≤ℤ◌, neg_ℤ, [], ◌∷◌, arith, subst}
+use mir.Syntax.{w64}
+use Rattle.std.proofs.Common.{◌≡◌, ◌↔◌, inl, inr, ℤ, pos, ◌+ℤ◌, ◌-ℤ◌, ◌*ℤ◌, ◌≤ℤ◌, neg_ℤ, [], ◌∷◌, IsTrue, int_le, arith, subst}
 use Rattle.std.proofs.lemmas.Int.{ints, by_lt_z}
 use Rattle.integer_algebra.proofs.Ring.{ring, V, M, ◌⊕◌, ◌⊖◌, ◌⊗◌}
 use Rattle.integer_algebra.proofs.Order.{square_nonneg, square_le, times_nonneg, times_le}
-use Rattle.plane_exact.specs.Plane.{GridPoint}
+use Rattle.integer_algebra.specs.Ranges.{IsUpTo}
+use Rattle.plane_exact.specs.Heights.{IsFineCoordinate}
+use Rattle.plane_exact.proofs.Wide.{tested}
 use Rattle.swept_move.specs.Beside.{AreApart, AreBelow, AreBeside, IsSpan}
-use Rattle.swept_move.proofs.Hits.{away, deep}
-use Rattle.swept_move.proofs.Leaving.{IsPlace}
+use Rattle.swept_move.proofs.Hits.{away}
+use Rattle.swept_move.proofs.Widths.{held}
+
+-- a moment from the start to the finish, and a point of the edge from a to b
+pub record IsPlace (S T N : ℤ) : Type 0 where
+  pub start : pos 0 ≤ℤ S
+  pub finish : S ≤ℤ N
+  pub a : pos 0 ≤ℤ T
+  pub b : T ≤ℤ N
+  pub some : pos 1 ≤ℤ N
 
 -- ---- the way to a point of the edge from a place of the path, in one coordinate, where the path lies before the edge
 
@@ -37,22 +48,6 @@ behind_by r m f g a b S T N m_f m_g a_m b_m place =
     omega (arith, ints)
 
 -- ---- how far the bit reaches
-
-pub reaches : (sn sd r z z' S N : ℤ) → (sn *ℤ z) ≤ℤ (sd *ℤ r) → (sn *ℤ z') ≤ℤ (sd *ℤ r) → pos 0 ≤ℤ S → S ≤ℤ N
-    → (sn *ℤ deep z (z' -ℤ z) S N) ≤ℤ (sd *ℤ (N *ℤ r))
-reaches sn sd r z z' S N first last start finish =
-    let p = times_le (N -ℤ S) (sn *ℤ z) (sd *ℤ r) (omega (arith, ints)) first in
-    let q = times_le S (sn *ℤ z') (sd *ℤ r) start last in
-    let e = ring (sn ∷ z ∷ z' ∷ S ∷ N ∷ []) (V 0 ⊗ (V 4 ⊗ V 1 ⊕ V 3 ⊗ (V 2 ⊖ V 1))) ((V 4 ⊖ V 3) ⊗ (V 0 ⊗ V 1) ⊕ V 3 ⊗ (V 0 ⊗ V 2)) tt in
-    let f = ring (sd ∷ r ∷ S ∷ N ∷ []) (V 0 ⊗ (V 3 ⊗ V 1)) ((V 3 ⊖ V 2) ⊗ (V 0 ⊗ V 1) ⊕ V 2 ⊗ (V 0 ⊗ V 1)) tt in
-    omega (arith, ints)
-
-pub deep_nonneg : (z z' S N : ℤ) → pos 0 ≤ℤ z → pos 0 ≤ℤ z' → pos 0 ≤ℤ S → S ≤ℤ N → pos 0 ≤ℤ deep z (z' -ℤ z) S N
-deep_nonneg z z' S N first last start finish =
-    let p = times_nonneg (N -ℤ S) z (omega (arith, ints)) first in
-    let q = times_nonneg S z' start last in
-    let e = ring (z ∷ z' ∷ S ∷ N ∷ []) (V 3 ⊗ V 0 ⊕ V 2 ⊗ (V 1 ⊖ V 0)) ((V 3 ⊖ V 2) ⊗ V 0 ⊕ V 2 ⊗ V 1) tt in
-    omega (arith, ints)
 
 -- a way that is at least x long is at least as long as the bit reaches
 pub far_by : (sn sd x X Y depth : ℤ) → pos 0 ≤ℤ sn → pos 0 ≤ℤ depth → (sn *ℤ depth) ≤ℤ (sd *ℤ x) → (x *ℤ x) ≤ℤ (X *ℤ X +ℤ Y *ℤ Y)
@@ -121,7 +116,7 @@ module _ (r low high bottom top f g a b : ℤ) (path : IsSpan low high f g) (edg
       let under_b = path.highest (b -ℤ r) (omega (arith, ints)) (omega (arith, ints)) in
       edge.lowest (high +ℤ r) (omega (arith, ints)) (omega (arith, ints))
 
-apart_is_beside : (r low high bottom top f g a b : ℤ) → IsSpan low high f g → IsSpan bottom top a b → AreApart r low high bottom top ↔ AreBeside r f g a b
+pub apart_is_beside : (r low high bottom top f g a b : ℤ) → IsSpan low high f g → IsSpan bottom top a b → AreApart r low high bottom top ↔ AreBeside r f g a b
 apart_is_beside r low high bottom top f g a b path edge = (
   (λ apart. elim apart [
     | inl gap ↦ inl (below_all r low high bottom top f g a b path edge gap)
@@ -133,15 +128,30 @@ apart_is_beside r low high bottom top f g a b path edge = (
   ]),
 )
 
--- The ranges of a path from p to q, and of an edge from a to b, along one axis: what tests that they are apart tests that the
--- ends are beside each other.
-pub tested_is_beside : (axis : GridPoint → ℤ) (a b : GridPoint) {T : Type 0} {n r : ℕ} {low high bottom top : ℤ} {p q f g : GridPoint} → n ≡ r → p ≡ f → q ≡ g
-    → IsSpan low high (axis p) (axis q) → IsSpan bottom top (axis a) (axis b) → T ↔ AreApart (pos n) low high bottom top
-    → T ↔ AreBeside (pos r) (axis f) (axis g) (axis a) (axis b)
-tested_is_beside axis a b {T = T} {low = low} {high = high} {bottom = bottom} {top = top} {q = q} {f = f} at_r at_f at_g path edge test =
-    let at_rmax = subst (λ (d : ℕ). T ↔ AreApart (pos d) low high bottom top) at_r test in
-    let at_path = subst (λ (z : GridPoint). IsSpan low high (axis f) (axis z)) at_g (subst (λ (z : GridPoint). IsSpan low high (axis z) (axis q)) at_f path) in
-    let same = apart_is_beside _ low high bottom top _ _ _ _ at_path edge in (
-      (λ t. same.0 (at_rmax.0 t)),
-      (λ beside. at_rmax.1 (same.1 beside)),
-    )
+-- ---- the ranges, as the code has them
+
+-- the code's test of a gap between coordinates
+pub gap_test : (h l r : ℤ) → IsFineCoordinate h → IsFineCoordinate l → IsUpTo (pos 81910) r → IsTrue (int_le (held w64 (held w64 h +ℤ held w64 r)) (held w64 l)) ↔ ((h +ℤ r) ≤ℤ l)
+gap_test h l r on_h on_l on_r =
+    let h_low = on_h.low in
+    let h_high = on_h.high in
+    let l_low = on_l.low in
+    let l_high = on_l.high in
+    let r_low = on_r.low in
+    let r_high = on_r.high in
+    let end : held w64 (held w64 h +ℤ held w64 r) ≡ h +ℤ r = omega (arith, ints) in
+    let start : held w64 l ≡ l = omega (arith, ints) in
+    tested _ _ _ _ end start
+
+-- what tests that the ranges of path and edge are apart tests that the ends are beside each other
+pub apart_test : {T : Type 0} {x low high bottom top p q s t : ℤ} (r f g a b : ℤ) → IsSpan low high p q → IsSpan bottom top s t → T ↔ AreApart x low high bottom top → x ≡ r → p ≡ f → q ≡ g → s ≡ a → t ≡ b → T ↔ AreBeside r f g a b
+apart_test {T = T} {x = x} {low = low} {high = high} {bottom = bottom} {top = top} {p = p} {q = q} {s = s} {t = t} r f g a b path edge test er ef eg ea eb =
+    let path' = subst (λ z. IsSpan low high f z) eg (subst (λ z. IsSpan low high z q) ef path) in
+    let edge' = subst (λ z. IsSpan bottom top a z) eb (subst (λ z. IsSpan bottom top z t) ea edge) in
+    let test' = subst (λ z. T ↔ AreApart z low high bottom top) er test in
+    let same = apart_is_beside r low high bottom top f g a b path' edge' in
+    ((λ t. same.0 (test'.0 t)), (λ h. test'.1 (same.1 h)))
+
+-- a coordinate that a call answered
+pub known : {r z : ℤ} → IsFineCoordinate r → r ≡ z → held w64 r ≡ z
+known on e = let low = on.low in let high = on.high in omega (arith, ints)

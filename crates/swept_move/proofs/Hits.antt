@@ -62,7 +62,7 @@ near_deeper Q R x y depth depth' r more near =
     record { below = omega (arith, ints); close = omega (arith, ints) }
 
 -- m times as far, and at least m times as deep
-near_mixed : (Q R x y depth m x' y' depth' : ℤ) → pos 0 ≤ℤ R → pos 0 <ℤ m → x' ≡ m *ℤ x → y' ≡ m *ℤ y → (m *ℤ depth) ≤ℤ depth' → IsNear Q R x y depth → IsNear Q R x' y' depth'
+pub near_mixed : (Q R x y depth m x' y' depth' : ℤ) → pos 0 ≤ℤ R → pos 0 <ℤ m → x' ≡ m *ℤ x → y' ≡ m *ℤ y → (m *ℤ depth) ≤ℤ depth' → IsNear Q R x y depth → IsNear Q R x' y' depth'
 near_mixed Q R x y depth m x' y' depth' r some ex ey least near =
     let scaled = times_lt (m *ℤ m) (Q *ℤ (x *ℤ x +ℤ y *ℤ y)) (R *ℤ (depth *ℤ depth)) (times_pos m m some some) near.close in
     let left : Q *ℤ (x' *ℤ x' +ℤ y' *ℤ y') ≡ (m *ℤ m) *ℤ (Q *ℤ (x *ℤ x +ℤ y *ℤ y)) =

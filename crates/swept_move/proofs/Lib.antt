@@ -2,14 +2,27 @@
 
 -- the first law of docs/PROOFS.md, step by step
 pub mod Hits
+pub mod Meetings
 pub mod Ray
-pub mod Leaving
-pub mod Quadratic
 pub mod Border
 pub mod Removing
-pub mod Swept
--- the quick test of an edge beside a move
+-- a motion over a part of its moments: both laws
+pub mod Parts
+pub mod Staying
+pub mod Sweeps
+pub mod Distances
+pub mod Touching
+-- and a motion between two places
+pub mod Motions
+pub mod Runs
+-- an edge beside a motion
 pub mod Boxes
-pub mod Cleared
--- the code's 64-bit numbers
-pub mod Narrow
+pub mod Aside
+-- moves in tenths, against the edges of a drawing
+pub mod Moves
+-- the code's numbers
+pub mod Widths
+pub mod Ways
+pub mod Clearances
+pub mod Products
+pub mod Deepest

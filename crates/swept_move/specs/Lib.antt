@@ -1,4 +1,8 @@
 -- The definitions of the crate.
 pub mod Beside
+pub mod Clear
 pub mod Law
+pub mod Motion
+pub mod Part
 pub mod Range
+pub mod Sweep

@@ -1,61 +1,60 @@
 // Edges that lie wholly beside a move: no disc of it reaches them, as the boxes of path and edge show.
-ghost use Rattle.std.specs.Prelude.{◌↔◌, ◌≤◌, pos, IsTrue};
-ghost use Rattle.plane_exact.specs.Plane.{IsCoordinate};
-ghost use Rattle.plane_exact.specs.Moves.{IsTooDeep};
-ghost use Rattle.engrave_model.specs.Clear.{PassesEdge};
-ghost use Rattle.swept_move.specs.Beside.{AreApart, IsBeside, IsSpan};
+ghost use Rattle.std.specs.Prelude.{◌↔◌, ◌*◌, pos, IsTrue};
+ghost use Rattle.integer_algebra.specs.Ranges.{IsUpTo};
+ghost use Rattle.plane_exact.specs.Heights.{IsFineCoordinate};
+ghost use Rattle.plane_exact.specs.Moves.{IsDeep, IsTooDeep};
+ghost use Rattle.swept_move.specs.Beside.{AreApart, IsSpan};
+ghost use Rattle.swept_move.specs.Clear.{PassesEdge, tenfold_edge};
+ghost use Rattle.swept_move.specs.Motion.{IsBesideBetween};
 
-use crate::tip::point;
-use plane_exact::{Bit, Move, Point, Seg};
+use crate::way::{tenfold_x, tenfold_y, x_of, y_of};
+use plane_exact::{Bit, Move, Seg};
 
 // Whether the edge lies at least the bit's greatest radius from the path on one side of it: left, right, below or above.
-// It takes no product, and holds of most edges of a drawing.
+// It takes no product of two coordinates, and holds of most edges of a drawing.
 pub fn is_beside(mv: &Move, bit: &Bit, edge: &Seg) -> bool
-    requires { ¬ IsTooDeep bit.now mv.now }
-    ensures beside { IsTrue result ↔ IsBeside bit.now mv.now edge.now }
+    requires narrow { ¬ IsTooDeep bit.now mv.now }
+    requires deep { IsDeep mv.now }
+    ensures beside { IsTrue result ↔ IsBesideBetween (pos (10 * bit.now.rmax)) mv.now.from mv.now.to (tenfold_edge edge.now) }
     ensures passes { IsTrue result → PassesEdge bit.now mv.now edge.now }
 {
-    let from = point(&mv.from);
-    let to = point(&mv.to);
-    across(from, to).is_apart(across(edge.a, edge.b), bit.rmax())
-        || up(from, to).is_apart(up(edge.a, edge.b), bit.rmax())
+    let reach = 10 * bit.rmax() as i64;
+    span_of(x_of(mv.from), x_of(mv.to)).is_apart(
+        span_of(tenfold_x(edge.a), tenfold_x(edge.b)),
+        reach,
+    ) || span_of(y_of(mv.from), y_of(mv.to)).is_apart(
+        span_of(tenfold_y(edge.a), tenfold_y(edge.b)),
+        reach,
+    )
 }
 
-// A range of an axis.
+// A range of an axis, in tenths of a grid unit.
 #[derive(Clone, Copy)]
 struct Span {
-    low: i32,
-    high: i32,
-    ghost low_range: { IsCoordinate low },
-    ghost high_range: { IsCoordinate high },
+    low: i64,
+    high: i64,
+    ghost low_range: { IsFineCoordinate low },
+    ghost high_range: { IsFineCoordinate high },
 }
 
-// From the left one of two points to the right one.
-fn across(p: Point, q: Point) -> Span
-    ensures { IsSpan result.low result.high p.x q.x }
+// From the lesser of two coordinates to the greater.
+fn span_of(a: i64, b: i64) -> Span
+    requires a { IsFineCoordinate a }
+    requires b { IsFineCoordinate b }
+    ensures { IsSpan result.low result.high a b }
 {
     Span {
-        low: p.x().min(q.x()),
-        high: p.x().max(q.x()),
-    }
-}
-
-// From the lower one of two points to the higher one.
-fn up(p: Point, q: Point) -> Span
-    ensures { IsSpan result.low result.high p.y q.y }
-{
-    Span {
-        low: p.y().min(q.y()),
-        high: p.y().max(q.y()),
+        low: a.min(b),
+        high: a.max(b),
     }
 }
 
 impl Span {
     // Whether there is a gap of at least `reach` between the ranges.
-    fn is_apart(self, other: Span, reach: u32) -> bool
-        requires { reach ≤ 8191 }
-        ensures { IsTrue result ↔ AreApart (pos reach) self.low self.high other.low other.high }
+    fn is_apart(self, other: Span, reach: i64) -> bool
+        requires { IsUpTo (pos 81910) reach }
+        ensures { IsTrue result ↔ AreApart reach self.low self.high other.low other.high }
     {
-        self.high + reach as i32 <= other.low || other.high + reach as i32 <= self.low
+        self.high + reach <= other.low || other.high + reach <= self.low
     }
 }

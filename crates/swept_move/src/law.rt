@@ -1,8 +1,60 @@
 // What the tests of a move against an edge say of all moments between.
-ghost use Rattle.swept_move.specs.Law.{SweptLaw};
+ghost use Rattle.swept_move.specs.Law.{CutLaw, ExactLaw, SweptLaw};
+ghost use Rattle.swept_move.specs.Motion.{BesideLaw, DeepPartLaw, MotionConverseLaw, MotionLaw, RunLaw};
+ghost use Rattle.swept_move.specs.Sweep.{SweepConverseLaw, SweepLaw};
 
 /// A move that passes the tests against an edge removes no point of the edge, at any moment. The bit may have any slope, the
 /// ends of the edge may be one point, and the move may pass through the surface sideways.
 pub fn swept_law()
     ensures { SweptLaw }
+{}
+
+/// The other way round: a move that goes below the surface passes the tests against an edge, or removes a point of it, which has
+/// its moment. The bit has to have some width.
+pub fn cut_law()
+    ensures { CutLaw }
+{}
+
+/// So the tests are exact: such a move passes them just where it removes no point of the edge.
+pub fn exact_law()
+    ensures { ExactLaw }
+{}
+
+/// A straight motion of the bit that passes the tests against an edge reaches no point of the edge, at any moment of the part
+/// that is looked at.
+pub fn sweep_law()
+    ensures { SweepLaw }
+{}
+
+/// The other way round: a straight motion of the bit that goes below the surface reaches a point of the edge at some moment of the
+/// part, or passes the tests. So the tests are exact. The bit has to have some width.
+pub fn sweep_converse_law()
+    ensures { SweepConverseLaw }
+{}
+
+/// The part of a motion's moments that its tests are about has all moments at which the tip is below the surface.
+pub fn deep_part_law()
+    ensures { DeepPartLaw }
+{}
+
+/// A motion between two places that passes the tests against an edge reaches no point of the edge, at any moment. It may go
+/// through the surface, also sideways.
+pub fn motion_law()
+    ensures { MotionLaw }
+{}
+
+/// The other way round, of a motion that goes below the surface and a bit of some width.
+pub fn motion_converse_law()
+    ensures { MotionConverseLaw }
+{}
+
+/// A motion whose places are at least the bit's greatest radius beside both ends of an edge passes the tests against it.
+pub fn beside_law()
+    ensures { BesideLaw }
+{}
+
+/// A run of equal steps keeps off an edge exactly where the one motion from its first place to its last does, for a bit of some
+/// width.
+pub fn run_law()
+    ensures { RunLaw }
 {}

@@ -1,15 +1,20 @@
 //! Straight moves of the bit against the edges of a drawing.
 //!
-//! Its promise is the clause of `clear_of`, the exact test of a move against an edge, and `law::swept_law`: a move that passes
-//! it removes no point of the edge, at any moment.
+//! Its promise is the clause of `clear_of`, the test of a move against an edge, and `law::exact_law`: a move that goes below the
+//! surface passes it just where no moment of it removes a point of the edge.
 #![tactic(auto)]
 
 mod beside;
 mod clear;
+mod clearance;
+mod coefficients;
+mod deep_move;
 mod disc;
+mod distance;
 pub mod law;
-mod margin;
-mod tip;
+mod moments;
+mod sides;
+mod way;
 
 pub use clear::clear_of;
 pub use disc::is_edge_clear;

@@ -30,13 +30,6 @@ fn check_names_the_first_move_that_gouges(rt: HostRuntime) -> Result<(), Fail> {
             "line 3 outside\n",
             1,
         ),
-        (
-            ANGLE,
-            "G0 Z2\nG0 X1 Y3\nG1 X1 Y1 Z-1",
-            200,
-            "line 3 slant\n",
-            1,
-        ),
         (ANGLE, "", 200, "clear 0 moves\n", 0),
         ("", "G0 Z2\nG0 X1 Y3\nG1 Z-0.1", 200, "line 3 outside\n", 1),
         ("", "G0 Z2\nG0 X1 Y3\nG0 X9 Y9", 200, "clear 1 moves\n", 0),
@@ -103,6 +96,118 @@ fn check_names_the_first_move_that_gouges(rt: HostRuntime) -> Result<(), Fail> {
             (want, line),
             "{code} over {drawing}"
         );
+    }
+    Ok(())
+}
+
+/// Down on a slope, through the surface over the corner of the L, a tenth of a grid unit before it and a tenth behind it.
+const OVER_THE_CORNER: &str = "G0 Z1\nG0 X1 Y3\nG1 X3 Y1 Z-1";
+
+const BEFORE_THE_CORNER: &str = "G0 Z0.999\nG0 X1 Y3\nG1 X3 Y1 Z-1";
+
+const BEHIND_THE_CORNER: &str = "G0 Z1.001\nG0 X1 Y3\nG1 X3 Y1 Z-1";
+
+#[test]
+fn a_slope_is_judged_by_its_part_below_the_surface(rt: HostRuntime) -> Result<(), Fail> {
+    for (drawing, code, line, want) in [
+        (ANGLE, "G0 Z2\nG0 X1 Y3\nG1 X1 Y1 Z-1", "clear 1 moves\n", 0),
+        (ANGLE, OVER_THE_CORNER, "clear 1 moves\n", 0),
+        (ANGLE, BEHIND_THE_CORNER, "clear 1 moves\n", 0),
+        (ANGLE, BEFORE_THE_CORNER, "line 3 gouge edge 2\n", 1),
+        (
+            ANGLE,
+            "G0 Z0.5\nG0 X1 Y3\nG1 X3 Y1 Z-1",
+            "line 3 gouge edge 2\n",
+            1,
+        ),
+        // Out of the plate on a slope, inside the drawing, and past its edge at the surface and below it.
+        (
+            SQUARE,
+            "G0 Z2\nG0 X1 Y5\nG1 Z-1\nG1 X5 Y5 Z1",
+            "clear 2 moves\n",
+            0,
+        ),
+        (
+            SQUARE,
+            "G0 Z2\nG0 X5 Y5\nG1 Z-1\nG1 X15 Y5 Z1",
+            "clear 2 moves\n",
+            0,
+        ),
+        (
+            SQUARE,
+            "G0 Z2\nG0 X5 Y5\nG1 Z-1\nG1 X15 Y5 Z0",
+            "line 4 gouge edge 1\n",
+            1,
+        ),
+        // From surface to surface nothing is cut, wherever it goes.
+        (SQUARE, "G0 Z0\nG0 X1 Y5\nG1 X20 Y5", "clear 1 moves\n", 0),
+        // Half a grid unit off the grid: the disc touches the edge, and a tenth deeper it reaches over it.
+        (
+            SQUARE,
+            "G0 Z2\nG0 X0.105 Y5\nG1 Z-0.105",
+            "clear 1 moves\n",
+            0,
+        ),
+        (
+            SQUARE,
+            "G0 Z2\nG0 X0.105 Y5\nG1 Z-0.106",
+            "line 3 gouge edge 3\n",
+            1,
+        ),
+    ] {
+        let words = "check --drawing=d --code=c --bit=1/1 --rmax=600";
+        let (status, text) = run(rt.alloc(), words, (drawing, code), 65_536, (NEVER, NEVER))?;
+        assert_eq!(rt;
+            (status, text.as_str()),
+            (want, line),
+            "{code} over {drawing}"
+        );
+    }
+    Ok(())
+}
+
+/// The largest square.
+const LARGEST: &str = "-32768,-32768 32767,-32768 32767,32767 -32768,32767";
+
+#[test]
+fn moves_are_judged_at_the_ends_of_the_ranges(rt: HostRuntime) -> Result<(), Fail> {
+    for (bit, code, line, want) in [
+        // From a corner, a tenth above the surface, to where the widest disc just doesn't reach the right edge, and one unit on.
+        (
+            "2000/1999",
+            "G0 Z0.001\nG0 X-327.68 Y-327.68\nG1 X245.76 Y245.76 Z-81.86",
+            "clear 1 moves\n",
+            0,
+        ),
+        (
+            "2000/1999",
+            "G0 Z0.001\nG0 X-327.68 Y-327.68\nG1 X245.77 Y245.76 Z-81.86",
+            "line 3 gouge edge 1\n",
+            1,
+        ),
+        // From the greatest height to the greatest depth.
+        (
+            "1/2000",
+            "G0 Z327.67\nG0 X-327.68 Y-327.68\nG1 X0 Y0 Z-327.67",
+            "clear 1 moves\n",
+            0,
+        ),
+        (
+            "1/2000",
+            "G0 Z327.67\nG0 X-327.68 Y-327.68\nG1 X327.67 Y327.67 Z-327.67",
+            "line 3 gouge edge 1\n",
+            1,
+        ),
+    ] {
+        let words = format!(in rt.alloc(); "check --drawing=d --code=c --bit={bit} --rmax=8191")?;
+        let (status, text) = run(
+            rt.alloc(),
+            words.as_str(),
+            (LARGEST, code),
+            65_536,
+            (NEVER, NEVER),
+        )?;
+        assert_eq!(rt; (status, text.as_str()), (want, line), "{bit} {code}");
     }
     Ok(())
 }

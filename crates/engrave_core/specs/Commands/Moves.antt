@@ -1,6 +1,6 @@
 -- What is due for `moves`: the moves of a G-code program, a line each, and their number.
-use Rattle.std.specs.Prelude.{◌≡◌, ℕ, List, ◌++◌, length, flat_map, codes, decimal}
-use Rattle.std.specs.Fmt.{signed_decimal}
+use Rattle.std.specs.Prelude.{◌≡◌, ◌==◌, ◌%◌, ℕ, ℤ, pos, List, ◌++◌, if◌then◌else◌, length, flat_map, codes, decimal, int_div, unsigned_abs}
+use Rattle.grid_num.specs.Written.{decimal_text}
 use Rattle.grid_num.specs.declared.units.Units.{Units}
 use Rattle.plane_exact.specs.Heights.{GridPlace}
 use Rattle.plane_exact.specs.declared.moves.LineMove.{LineMove}
@@ -10,13 +10,17 @@ use Rattle.engrave_core.specs.Refusals.{IsRefusalOfStoredCode}
 use Rattle.engrave_core.specs.declared.outcome.Outcome.{Outcome}
 use Rattle.engrave_core.specs.declared.outcome.Outcome.TheVariants.{Done}
 
+-- so many tenths, in grid units: where that is whole, without its point and last digit
+unfoldable pub number_text : ℤ → List ℕ
+number_text tenths = if unsigned_abs tenths % 10 == 0 then decimal_text 0 (int_div tenths (pos 10)) else decimal_text 1 tenths
+
 -- X,Y,H
-unfoldable pub place_text : GridPlace → List ℕ
-place_text place = signed_decimal place.at.x ++ codes "," ++ signed_decimal place.at.y ++ codes "," ++ signed_decimal place.h
+unfoldable pub spot_text : GridPlace → List ℕ
+spot_text spot = number_text spot.at.x ++ codes "," ++ number_text spot.at.y ++ codes "," ++ number_text spot.h
 
 -- LINE X,Y,H X,Y,H
 unfoldable pub move_line : LineMove → List ℕ
-move_line move = decimal move.line ++ codes " " ++ place_text move.mv.from ++ codes " " ++ place_text move.mv.to ++ codes "\n"
+move_line move = decimal_text 0 (pos move.line) ++ codes " " ++ spot_text move.mv.from ++ codes " " ++ spot_text move.mv.to ++ codes "\n"
 
 -- a line for each move, and then their number
 unfoldable pub moves_text : List LineMove → List ℕ

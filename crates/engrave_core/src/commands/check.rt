@@ -22,7 +22,7 @@ pub fn run<D: Depot>(
     code: &Text,
     bit: &Bit,
     depot: &mut D,
-) -> Result<String, Refusal>
+) -> Result<Vec<u8>, Refusal>
     ensures value { AnswersFrom D.held D.faults D.misses depot.old depot.new
         (λ files. IsReported (IsDueOfCheck files shape.now code.now bit.now)) result }
     ensures refusal { IfErr result (λ refusal. IsRefusalOfCheck (outcome_of refusal)) }
@@ -39,13 +39,13 @@ fn verdict_text(
     drawing: Drawing,
     bit: &Bit,
     moves: &[LineMove],
-) -> Result<String, Refusal>
+) -> Result<Vec<u8>, Refusal>
     ensures value { IsReported (IsChecked bit.now drawing moves.now) result }
     ensures refusal { IfErr result (λ refusal. IsRefusalOfVerdict (outcome_of refusal)) }
 {
     let scene = Scene::new(alloc, drawing)?;
     match check(&scene, bit, moves) {
-        Verdict::Clear => Ok(clear_text(alloc, moves.len())?),
+        Verdict::Clear => Ok(clear_text(alloc, moves.len())?.into_bytes()),
         fault => Err(Refusal::NotClear(fault)),
     }
 }

@@ -23,14 +23,14 @@ pub fn run<D: Depot>(
     bit: &Bit,
     limit: u32,
     depot: &mut D,
-) -> Result<String, Refusal>
+) -> Result<Vec<u8>, Refusal>
     requires { IsFromOneTo 32767 limit }
     ensures value { AnswersFrom D.held D.faults D.misses depot.old depot.new
         (λ files. IsReported (IsDueOfProbe files shape.now at bit.now limit)) result }
     ensures refusal { IfErr result (λ refusal. IsRefusalOfProbe (outcome_of refusal)) }
 {
     let drawing = load_drawing(alloc, shape.drawing.as_str(), depot)?;
-    Ok(depth_text(alloc, drawing, at, bit, limit)?)
+    Ok(depth_text(alloc, drawing, at, bit, limit)?.into_bytes())
 }
 
 /// `depth Z`, the greatest depth at the point of the drawing.

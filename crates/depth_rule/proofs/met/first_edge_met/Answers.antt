@@ -1,7 +1,7 @@
 -- Answers the goals of `first_edge_met`.
 use Rattle.std.proofs.Common.{rules}
 use Rattle.std.proofs.lemmas.List.Elements.{AllWithin-more, at_read}
-use Rattle.engrave_model.specs.Clear.{PassesEdge}
+use Rattle.swept_move.specs.Clear.{PassesEdge}
 use Rattle.depth_rule.proofs.met.first_edge_met.Goals as goal
 
 pub loop-e-preserved : goal.loop-e-preserved

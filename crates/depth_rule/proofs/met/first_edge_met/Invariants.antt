@@ -1,6 +1,6 @@
 -- The invariants of the loop of `first_edge_met`.
 use Rattle.std.specs.List.{AllWithin}
-use Rattle.engrave_model.specs.Clear.{PassesEdge}
+use Rattle.swept_move.specs.Clear.{PassesEdge}
 use Rattle.depth_rule.proofs.met.first_edge_met.Given as goal
 
 abbrev pub invariant-loop-e : goal.invariant-loop-e

@@ -2,7 +2,7 @@
 use Rattle.std.specs.Prelude.{map, string_bytes}
 use Rattle.std.proofs.Common.{inr}
 use Rattle.job_words.specs.Request.{request_of}
-use Rattle.engrave_core.proofs.Safety.{written_is_safe}
+use Rattle.engrave_core.proofs.Safety.{written_is_safe, written_is_true}
 use Rattle.engrave_core.proofs.Writing.{IfSome-map, caused_after, part_of_due, completes}
 use Rattle.engrave_core.proofs.top.engrave.Goals as goal
 
@@ -12,14 +12,14 @@ returns-in-Ok-clause-caused g c = caused_after _ _ _ _ c.in-Ok.reply.outcome c.w
 pub returns-in-Ok-clause-cut_short : goal.returns-in-Ok-clause-cut_short
 returns-in-Ok-clause-cut_short g c =
     IfSome-map (g.D.Depot.held c.args.depot.now)
-    (λ files due cut. part_of_due (map string_bytes c.args.words.now) files (string_bytes c.in-Ok.reply.text) _ _ _ _ _ _
+    (λ files due cut. part_of_due (map string_bytes c.args.words.now) files c.in-Ok.reply.text.items _ _ _ _ _ _
     c.in-Ok.reply.outcome c.in-Ok.ensures.writes due c.in-Ok.ensures.refused c.in-Ok.ensures.caused (c.write.ensures.cut_short cut))
     c.in-Ok.ensures.due
 
 pub returns-in-Ok-clause-complete : goal.returns-in-Ok-clause-complete
 returns-in-Ok-clause-complete g c =
     IfSome-map (g.D.Depot.held c.args.depot.now)
-    (λ files due calm steady. inr (completes (map string_bytes c.args.words.now) files (string_bytes c.in-Ok.reply.text) _ _ _ _ _ _
+    (λ files due calm steady. inr (completes (map string_bytes c.args.words.now) files c.in-Ok.reply.text.items _ _ _ _ _ _
     c.in-Ok.reply.outcome c.write.result _ _ c.in-Ok.ensures.writes due c.in-Ok.ensures.caused c.write.ensures.either
     c.write.ensures.written c.write.ensures.write_fault calm steady))
     c.in-Ok.ensures.due
@@ -27,6 +27,13 @@ returns-in-Ok-clause-complete g c =
 pub returns-in-Ok-clause-safe : goal.returns-in-Ok-clause-safe
 returns-in-Ok-clause-safe g c =
     IfSome-map (g.D.Depot.held c.args.depot.now)
-    (λ files due done. written_is_safe files (request_of (map string_bytes c.args.words.now)) (string_bytes c.in-Ok.reply.text)
+    (λ files due done. written_is_safe files (request_of (map string_bytes c.args.words.now)) c.in-Ok.reply.text.items
     c.in-Ok.reply.outcome c.write.result c.write.ensures.either due done)
+    c.in-Ok.ensures.due
+
+pub returns-in-Ok-clause-exact : goal.returns-in-Ok-clause-exact
+returns-in-Ok-clause-exact g c =
+    IfSome-map (g.D.Depot.held c.args.depot.now)
+    (λ files due. written_is_true files (request_of (map string_bytes c.args.words.now)) c.in-Ok.reply.text.items
+    c.in-Ok.reply.outcome c.write.result c.write.ensures.either due)
     c.in-Ok.ensures.due

@@ -1,5 +1,5 @@
 -- Answers the goals of `swept_law`.
-use Rattle.swept_move.proofs.Swept.{removes_none}
+use Rattle.swept_move.proofs.Moves.{removes_none}
 use Rattle.swept_move.proofs.law.swept_law.Goals as goal
 
 pub returns : goal.returns
