@@ -15,6 +15,7 @@ pub mod Touching
 -- and a motion between two places
 pub mod Motions
 pub mod Runs
+pub mod Successive
 -- an edge beside a motion
 pub mod Boxes
 pub mod Aside

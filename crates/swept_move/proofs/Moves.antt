@@ -1,22 +1,24 @@
--- Moves in tenths of a grid unit against the edges of a drawing: both laws of a motion between two places, with the edge tenfold.
-use Rattle.std.proofs.Common.{◌≡◌, ◌⊎◌, ◌≤◌, ◌*◌, inl, inr, ℕ, ℤ, pos, ◌+ℤ◌, ◌-ℤ◌, ◌*ℤ◌, ◌≤ℤ◌, ◌<ℤ◌, [], ◌∷◌, arith, ap, subst, sym, ◌∙◌}
+-- Moves in tenths of a grid unit against the edges of a drawing: the laws of motions between places, with the edge tenfold.
+use Rattle.std.proofs.Common.{◌≡◌, ◌≤◌, ◌*◌, inl, inr, true, nat_lt, if◌then◌else◌, ℕ, suc, ℤ, pos, negsuc, ◌+ℤ◌, ◌-ℤ◌, ◌*ℤ◌, List, [], ◌∷◌, get_or, arith, ap, subst, sym, ◌∙◌}
 use Rattle.std.proofs.lemmas.Int.{ints, by_lt_z}
 use Rattle.integer_algebra.proofs.Order.{times_lt}
 use Rattle.integer_algebra.proofs.Ring.{ring, V, K, ◌⊕◌, ◌⊖◌, ◌⊗◌}
 use Rattle.plane_exact.specs.Cone.{Cone}
-use Rattle.plane_exact.specs.Distance.{square, IsCloser}
-use Rattle.plane_exact.specs.Moves.{IsDeep, IsTooDeep, IsTooWide, depth_of}
-use Rattle.plane_exact.specs.Plane.{RationalPoint, IsBetween}
+use Rattle.plane_exact.specs.Distance.{IsCloser}
+use Rattle.plane_exact.specs.Moves.{IsDeep, IsTooDeep, IsTooWide, depth_of, first_deep}
+use Rattle.plane_exact.specs.Plane.{GridPoint, RationalPoint, IsBetween, rational}
 use Rattle.plane_exact.specs.declared.moves.Move.{Move}
 use Rattle.plane_exact.specs.declared.point.Seg.{Seg}
 use Rattle.engrave_model.specs.Depth.{IsInDisc}
-use Rattle.engrave_model.specs.Removal.{IsRemoved, Moment, RemovesSome, place_at, tenfold}
-use Rattle.swept_move.specs.Clear.{PassesEdge, tenfold_edge}
-use Rattle.swept_move.specs.Law.{CutLaw, ExactLaw, SweptLaw}
-use Rattle.swept_move.specs.Motion.{IsBesideBetween, sweep_between}
+use Rattle.engrave_model.specs.Inside.{IsInside}
+use Rattle.engrave_model.specs.Removal.{IsRemoved, Moment, RemovesSome, from_tenths, place_at, tenfold}
+use Rattle.swept_move.specs.Clear.{IsClear, IsClearDeep, PassesEdge, tenfold_edge}
+use Rattle.swept_move.specs.Law.{ClearRunLaw, CutLaw, ExactLaw, SweptLaw, at_height, level_move}
+use Rattle.swept_move.specs.Motion.{IsBesideBetween, IsOnWay, sweep_between}
 use Rattle.swept_move.specs.Sweep.{IsReached, IsTouched}
 use Rattle.swept_move.proofs.Aside.{beside_is_clear}
 use Rattle.swept_move.proofs.Motions.{depth_at, spares_edge, touches_or_keeps_off}
+use Rattle.swept_move.proofs.Successive.{is_joined}
 
 -- one coordinate of a point of an edge, and of the edge in tenths
 in_tenths : (k n w o a b : ℤ) → n *ℤ w ≡ o *ℤ (n *ℤ a +ℤ k *ℤ (b -ℤ a)) → n *ℤ (pos 10 *ℤ w) ≡ o *ℤ (n *ℤ (pos 10 *ℤ a) +ℤ k *ℤ (pos 10 *ℤ b -ℤ pos 10 *ℤ a))
@@ -34,8 +36,8 @@ on_tenfold e w on = record {
 }
 
 -- and back
-from_tenths : (k n w o a b : ℤ) → n *ℤ w ≡ o *ℤ (n *ℤ (pos 10 *ℤ a) +ℤ k *ℤ (pos 10 *ℤ b -ℤ pos 10 *ℤ a)) → n *ℤ w ≡ (o *ℤ pos 10) *ℤ (n *ℤ a +ℤ k *ℤ (b -ℤ a))
-from_tenths k n w o a b on =
+in_units : (k n w o a b : ℤ) → n *ℤ w ≡ o *ℤ (n *ℤ (pos 10 *ℤ a) +ℤ k *ℤ (pos 10 *ℤ b -ℤ pos 10 *ℤ a)) → n *ℤ w ≡ (o *ℤ pos 10) *ℤ (n *ℤ a +ℤ k *ℤ (b -ℤ a))
+in_units k n w o a b on =
     on
     ∙ ring (k ∷ n ∷ o ∷ a ∷ b ∷ []) (V 2 ⊗ (V 1 ⊗ (K (pos 10) ⊗ V 3) ⊕ V 0 ⊗ (K (pos 10) ⊗ V 4 ⊖ K (pos 10) ⊗ V 3)))
     ((V 2 ⊗ K (pos 10)) ⊗ (V 1 ⊗ V 3 ⊕ V 0 ⊗ (V 4 ⊖ V 3))) tt
@@ -78,8 +80,8 @@ module _ (cone : Cone) (mv : Move) where
         point = whole_point w;
         on = record {
           at = on.at;
-          across = from_tenths on.at.k on.at.n w.x w.over e.a.x e.b.x on.across;
-          up = from_tenths on.at.k on.at.n w.y w.over e.a.y e.b.y on.up;
+          across = in_units on.at.k on.at.n w.x w.over e.a.x e.b.x on.across;
+          up = in_units on.at.k on.at.n w.y w.over e.a.y e.b.y on.up;
         };
         removed = removed_of_reached touched.moment w touched.reached;
       }
@@ -119,3 +121,48 @@ unfolding PassesEdge
 beside_passes cone mv e some narrow deep beside =
     beside_is_clear cone (10 * cone.rmax) mv.from mv.to (tenfold_edge e) (omega (arith, ints)) deep
     (narrow_at cone (depth_of mv.from.h) (λ wide. narrow (inl wide))) (narrow_at cone (depth_of mv.to.h) (λ wide. narrow (inr wide))) beside
+
+-- ---- moves that follow each other on a line, at one height
+
+-- a point of a segment is on the way of a move at one height, by each coordinate
+on_way : (k n q p r : ℤ) → n *ℤ q ≡ pos 1 *ℤ (n *ℤ p +ℤ k *ℤ (r -ℤ p)) → n *ℤ q ≡ (n -ℤ k) *ℤ p +ℤ k *ℤ r
+on_way k n q p r on = on ∙ ring (k ∷ n ∷ p ∷ r ∷ []) (K (pos 1) ⊗ (V 1 ⊗ V 2 ⊕ V 0 ⊗ (V 3 ⊖ V 2))) ((V 1 ⊖ V 0) ⊗ V 2 ⊕ V 0 ⊗ V 3) tt
+
+level_way : (h : ℤ) (p q r : GridPoint) → IsBetween p r (rational q) → IsOnWay (at_height h p) (at_height h q) (at_height h r)
+level_way h p q r on = record {
+  moment = on.at;
+  across = on_way on.at.k on.at.n q.x p.x r.x on.across;
+  up = on_way on.at.k on.at.n q.y p.y r.y on.up;
+  height = ring (on.at.k ∷ on.at.n ∷ h ∷ []) (V 1 ⊗ V 2) ((V 1 ⊖ V 0) ⊗ V 2 ⊕ V 0 ⊗ V 2) tt;
+}
+
+-- below the surface the first deep end is the first
+starts_deep : (n : ℕ) (p q : GridPoint) → first_deep (level_move (negsuc n) p q) ≡ p
+starts_deep n p q = let deep : nat_lt 0 (suc n) ≡ true = grind arith in ap (λ b. if b then p else q) deep
+
+module _ (edges : List Seg) (cone : Cone) (steep : 1 ≤ cone.sn) where
+  -- at a height below the surface
+  joined_deep : (n : ℕ) (p q r : GridPoint) → IsBetween p r (rational q)
+      → IsClearDeep edges cone (level_move (negsuc n) p q) → IsClearDeep edges cone (level_move (negsuc n) q r) → IsClearDeep edges cone (level_move (negsuc n) p r)
+  unfolding PassesEdge
+  joined_deep n p q r on before after = record {
+    narrow = before.narrow;
+    passes = λ k d l.
+        let join = is_joined cone _ _ _ (tenfold_edge (get_or edges k d)) steep (level_way (negsuc n) p q r on) in
+        join.1 ((λ deep. before.passes k d l), (λ deep. after.passes k d l)) (inl (omega arith));
+    inside = subst (λ u. IsInside edges (from_tenths u)) (starts_deep n p q ∙ sym (starts_deep n p r)) before.inside;
+  }
+
+  joined_clear : (h : ℤ) (p q r : GridPoint) → IsBetween p r (rational q)
+      → IsClear edges cone (level_move h p q) → IsClear edges cone (level_move h q r) → IsClear edges cone (level_move h p r)
+  joined_clear (pos n) p q r on before after = inl (λ deep. elim deep [ inl l ↦ absurd (omega arith) | inr l ↦ absurd (omega arith) ])
+  joined_clear (negsuc n) p q r on before after =
+      elim before [
+        | inl shallow ↦ inl shallow
+        | inr first ↦ elim after [ inl shallow ↦ inl shallow | inr second ↦ inr (joined_deep n p q r on first second) ]
+      ]
+
+pub run_is_clear : ClearRunLaw
+run_is_clear edges cone h first p [] steep on clear = clear.0
+run_is_clear edges cone h first p (q ∷ rest) steep on clear =
+    run_is_clear edges cone h first q rest steep on.1 (joined_clear edges cone steep h first p q on.0 clear.0 clear.1.0, clear.1.1)

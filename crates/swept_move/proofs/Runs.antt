@@ -38,14 +38,14 @@ closer_scaled sn sd c x y o D n X Y O D' N wx wy wo some ex ey eo ed en close =
     omega (arith, ints)
 
 -- at the moment s of the one motion the tip is where it is at the moment s' of the other, if c is above 0
-record IsSameMoment (p q p' q' : GridPlace) (s s' : Moment) (c : ℤ) : Type 0 where
-  some : pos 0 <ℤ c
-  across : between s' p'.at.x q'.at.x ≡ c *ℤ between s p.at.x q.at.x
-  up : between s' p'.at.y q'.at.y ≡ c *ℤ between s p.at.y q.at.y
-  height : between s' p'.h q'.h ≡ c *ℤ between s p.h q.h
-  whole : s'.n ≡ c *ℤ s.n
+pub record IsSameMoment (p q p' q' : GridPlace) (s s' : Moment) (c : ℤ) : Type 0 where
+  pub some : pos 0 <ℤ c
+  pub across : between s' p'.at.x q'.at.x ≡ c *ℤ between s p.at.x q.at.x
+  pub up : between s' p'.at.y q'.at.y ≡ c *ℤ between s p.at.y q.at.y
+  pub height : between s' p'.h q'.h ≡ c *ℤ between s p.h q.h
+  pub whole : s'.n ≡ c *ℤ s.n
 
-reached_there : (cone : Cone) (p q p' q' : GridPlace) (s s' : Moment) (c : ℤ) (w : RationalPoint) → IsSameMoment p q p' q' s s' c
+pub reached_there : (cone : Cone) (p q p' q' : GridPlace) (s s' : Moment) (c : ℤ) (w : RationalPoint) → IsSameMoment p q p' q' s s' c
     → IsReached cone (sweep_between p q) s w → IsReached cone (sweep_between p' q') s' w
 reached_there cone p q p' q' s s' c w same reached =
     let D = sweep_depth (sweep_between p q) s in
@@ -87,10 +87,10 @@ in_second i j k n f m l divided =
     ∙ ap (λ z. (n -ℤ k) *ℤ z +ℤ (k *ℤ (i +ℤ j) -ℤ n *ℤ i) *ℤ l) divided
     ∙ ring xs ((V 3 ⊖ V 2) ⊗ (V 1 ⊗ V 4 ⊕ V 0 ⊗ V 6) ⊕ past ⊗ V 6) (V 1 ⊗ ((V 3 ⊖ V 2) ⊗ V 4 ⊕ V 2 ⊗ V 6)) tt
 
-module _ (cone : Cone) (i j : ℤ) (p m q : GridPlace) (w : RationalPoint) (first : pos 1 ≤ℤ i) (second : pos 1 ≤ℤ j) (joined : IsJoinedAt i j p m q) where
+module _ (cone : Cone) (i j : ℤ) (p m q : GridPlace) (w : RationalPoint) (least_i : pos 0 ≤ℤ i) (least_j : pos 0 ≤ℤ j) (long : pos 1 ≤ℤ (i +ℤ j)) (joined : IsJoinedAt i j p m q) where
   -- the moment is one of the first part
-  reached_first : (s : Moment) → (s.k *ℤ (i +ℤ j)) ≤ℤ (s.n *ℤ i) → Spares cone p m w → ¬ IsReached cone (sweep_between p q) s w
-  reached_first s early spares reached =
+  reached_first : (s : Moment) → pos 1 ≤ℤ i → (s.k *ℤ (i +ℤ j)) ≤ℤ (s.n *ℤ i) → Spares cone p m w → ¬ IsReached cone (sweep_between p q) s w
+  reached_first s first early spares reached =
       let some = s.some in
       let least = times_pos s.n i (omega (arith, ints)) (omega (arith, ints)) in
       let s' : Moment = record { k = s.k *ℤ (i +ℤ j); n = s.n *ℤ i; start = times_nonneg s.k (i +ℤ j) s.start (omega (arith, ints)); finish = early; some = omega (arith, ints) } in
@@ -103,8 +103,8 @@ module _ (cone : Cone) (i j : ℤ) (p m q : GridPlace) (w : RationalPoint) (firs
       }) reached)
 
   -- or of the second
-  reached_second : (s : Moment) → (s.n *ℤ i) ≤ℤ (s.k *ℤ (i +ℤ j)) → Spares cone m q w → ¬ IsReached cone (sweep_between p q) s w
-  reached_second s late spares reached =
+  reached_second : (s : Moment) → pos 1 ≤ℤ j → (s.n *ℤ i) ≤ℤ (s.k *ℤ (i +ℤ j)) → Spares cone m q w → ¬ IsReached cone (sweep_between p q) s w
+  reached_second s second late spares reached =
       let some = s.some in
       let least = times_pos s.n j (omega (arith, ints)) (omega (arith, ints)) in
       let rest = times_nonneg (s.n -ℤ s.k) (i +ℤ j) (let finish = s.finish in omega (arith, ints)) (omega (arith, ints)) in
@@ -118,11 +118,21 @@ module _ (cone : Cone) (i j : ℤ) (p m q : GridPlace) (w : RationalPoint) (firs
         whole = ring (s.n ∷ j ∷ []) (V 0 ⊗ V 1) (V 1 ⊗ V 0) tt;
       }) reached)
 
+  -- it is one of the first where the second has no length, and one of the second where the first has none
   pub joined_spares : Spares cone p m w → Spares cone m q w → Spares cone p q w
   joined_spares before after s reached =
-      by_lt_z (s.n *ℤ i) (s.k *ℤ (i +ℤ j))
-      (λ late. reached_second s (omega (arith, ints)) after reached)
-      (λ early. reached_first s early before reached)
+      let some = s.some in
+      let finish = s.finish in
+      let gone = times_nonneg s.k (i +ℤ j) s.start (omega (arith, ints)) in
+      let left = times_nonneg (s.n -ℤ s.k) i (omega (arith, ints)) least_i in
+      let sum = ring (s.k ∷ s.n ∷ i ∷ []) ((V 1 ⊖ V 0) ⊗ V 2) (V 1 ⊗ V 2 ⊖ V 0 ⊗ V 2) tt in
+      by_lt_z (pos 0) i
+      (λ first. by_lt_z (pos 0) j
+      (λ second. by_lt_z (s.n *ℤ i) (s.k *ℤ (i +ℤ j))
+      (λ late. reached_second s (omega (arith, ints)) (omega (arith, ints)) after reached)
+      (λ early. reached_first s (omega (arith, ints)) (omega (arith, ints)) before reached))
+      (λ none. let all = ap (λ z. s.k *ℤ z) (let e : i +ℤ j ≡ i = omega (arith, ints) in e) in reached_first s (omega (arith, ints)) (omega (arith, ints)) before reached))
+      (λ none. let all = ap (λ z. s.n *ℤ z) (let e : i ≡ pos 0 = omega (arith, ints) in e) in reached_second s (omega (arith, ints)) (omega (arith, ints)) after reached)
 
 -- ---- a run of equal steps
 
@@ -139,7 +149,7 @@ module _ (cone : Cone) (p d : GridPlace) (w : RationalPoint) where
   run_spares zero steps = steps 0 (omega arith)
   run_spares (suc n) steps =
       let next : pos (suc (suc n)) ≡ pos (suc n) +ℤ pos 1 = omega (arith, ints) in
-      joined_spares cone (pos (suc n)) (pos 1) (P 0) (P (suc n)) (P (suc (suc n))) w (omega (arith, ints)) (record { le = tt }) (record {
+      joined_spares cone (pos (suc n)) (pos 1) (P 0) (P (suc n)) (P (suc (suc n))) w (omega (arith, ints)) (record { le = tt }) (omega (arith, ints)) (record {
         across = next_divides (pos (suc n)) (pos (suc (suc n))) p.at.x d.at.x next;
         up = next_divides (pos (suc n)) (pos (suc (suc n))) p.at.y d.at.y next;
         height = next_divides (pos (suc n)) (pos (suc (suc n))) p.h d.h next;
@@ -177,10 +187,10 @@ step_spares cone p d w n t l spares s reached =
 
 -- ---- and so of the tests, by both laws
 
-kept_spares : (cone : Cone) (p q : GridPlace) (e : Seg) (w : RationalPoint) → IsBetween e.a e.b w → KeepsOffBetween cone p q e → Spares cone p q w
+pub kept_spares : (cone : Cone) (p q : GridPlace) (e : Seg) (w : RationalPoint) → IsBetween e.a e.b w → KeepsOffBetween cone p q e → Spares cone p q w
 kept_spares cone p q e w on kept s reached = spares_edge cone p q e (kept (deep_where_reached p q s reached.deep)) w on s reached
 
-spared_keeps : (cone : Cone) (p q : GridPlace) (e : Seg) → 1 ≤ cone.sn → ((w : RationalPoint) → IsBetween e.a e.b w → Spares cone p q w) → KeepsOffBetween cone p q e
+pub spared_keeps : (cone : Cone) (p q : GridPlace) (e : Seg) → 1 ≤ cone.sn → ((w : RationalPoint) → IsBetween e.a e.b w → Spares cone p q w) → KeepsOffBetween cone p q e
 spared_keeps cone p q e steep spares deep =
     elim (touches_or_keeps_off cone p q e steep deep) [
       | inl touched ↦ absurd (spares touched.point touched.on touched.moment touched.reached)

@@ -2,7 +2,7 @@
 -- those of its parts say of the whole.
 --
 -- Points and heights are whole numbers of one unit, whichever it is. The motion may go through the surface, also sideways.
-use Rattle.std.specs.Prelude.{◌↔◌, ◌⊎◌, ◌≤◌, ◌*◌, ℕ, suc, ℤ, pos, neg_ℤ, int_lt, ◌+ℤ◌, ◌-ℤ◌, ◌*ℤ◌, ◌≤ℤ◌, ◌<ℤ◌, if◌then◌else◌}
+use Rattle.std.specs.Prelude.{◌≡◌, ◌↔◌, ◌⊎◌, ◌≤◌, ◌*◌, ⊤, ℕ, suc, ℤ, pos, neg_ℤ, int_lt, ◌+ℤ◌, ◌-ℤ◌, ◌*ℤ◌, ◌≤ℤ◌, ◌<ℤ◌, if◌then◌else◌, List, [], ◌∷◌}
 use Rattle.plane_exact.specs.Cone.{Cone}
 use Rattle.plane_exact.specs.Heights.{GridPlace}
 use Rattle.plane_exact.specs.Plane.{RationalPoint, IsBetween}
@@ -88,3 +88,39 @@ abbrev pub RunLaw : Type 0
 RunLaw =
     (cone : Cone) (p d : GridPlace) (n : ℕ) (e : Seg) → 1 ≤ cone.sn
     → KeepsOffBetween cone (place_after p d 0) (place_after p d (suc n)) e ↔ ((t : ℕ) → t ≤ n → KeepsOffBetween cone (place_after p d t) (place_after p d (suc t)) e)
+
+-- ---- successive places on a line
+
+-- the motion from p to r is at q at some moment
+pub record IsOnWay (p q r : GridPlace) : Type 0 where
+  pub moment : Moment
+  pub across : moment.n *ℤ q.at.x ≡ between moment p.at.x r.at.x
+  pub up : moment.n *ℤ q.at.y ≡ between moment p.at.y r.at.y
+  pub height : moment.n *ℤ q.h ≡ between moment p.h r.h
+
+-- of x and the elements behind it, R holds of each and the next
+abbrev pub AllNeighbours : {A : Type 0} → (A → A → Type 0) → A → List A → Type 0
+AllNeighbours R x [] = ⊤
+AllNeighbours R x (y ∷ rest) = R x y × AllNeighbours R y rest
+
+-- of x and the elements behind it, the last
+abbrev pub last_from : {A : Type 0} → A → List A → A
+last_from x [] = x
+last_from x (y ∷ rest) = last_from y rest
+
+-- of the place p and those behind it, each but the last is on the way from the first place to the next
+abbrev pub AreOnWay : (first p : GridPlace) → List GridPlace → Type 0
+AreOnWay first p rest = AllNeighbours (IsOnWay first) p rest
+
+-- a motion keeps off an edge exactly where its part up to a place on its way does, and its part from there
+abbrev pub JoinLaw : Type 0
+JoinLaw =
+    (cone : Cone) (p q r : GridPlace) (e : Seg) → 1 ≤ cone.sn → IsOnWay p q r
+    → KeepsOffBetween cone p r e ↔ (KeepsOffBetween cone p q e × KeepsOffBetween cone q r e)
+
+-- so the motion over places that follow each other on a line keeps off an edge exactly where the motion between each two
+-- neighbours does
+abbrev pub SuccessiveLaw : Type 0
+SuccessiveLaw =
+    (cone : Cone) (first p : GridPlace) (rest : List GridPlace) (e : Seg) → 1 ≤ cone.sn → AreOnWay first p rest
+    → KeepsOffBetween cone first (last_from p rest) e ↔ AllNeighbours (λ q r. KeepsOffBetween cone q r e) first (p ∷ rest)

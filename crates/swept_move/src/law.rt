@@ -1,6 +1,6 @@
-// What the tests of a move against an edge say of all moments between.
-ghost use Rattle.swept_move.specs.Law.{CutLaw, ExactLaw, SweptLaw};
-ghost use Rattle.swept_move.specs.Motion.{BesideLaw, DeepPartLaw, MotionConverseLaw, MotionLaw, RunLaw};
+// What the tests of a move against an edge say of all moments between, and what those of its parts say of the whole.
+ghost use Rattle.swept_move.specs.Law.{ClearRunLaw, CutLaw, ExactLaw, SweptLaw};
+ghost use Rattle.swept_move.specs.Motion.{BesideLaw, DeepPartLaw, JoinLaw, MotionConverseLaw, MotionLaw, RunLaw, SuccessiveLaw};
 ghost use Rattle.swept_move.specs.Sweep.{SweepConverseLaw, SweepLaw};
 
 /// A move that passes the tests against an edge removes no point of the edge, at any moment. The bit may have any slope, the
@@ -57,4 +57,23 @@ pub fn beside_law()
 /// width.
 pub fn run_law()
     ensures { RunLaw }
+{}
+
+/// A motion keeps off an edge exactly where its two parts do, up to a place on its way and from there, for a bit of some width.
+/// The place may be an end of the motion.
+pub fn join_law()
+    ensures { JoinLaw }
+{}
+
+/// So where places follow each other on a line, each on the way from the first to the next, the motion from the first to the last
+/// keeps off an edge exactly where the motions between neighbours do. There are two places or more; they may be unevenly spaced,
+/// and neighbours may be the same.
+pub fn successive_law()
+    ensures { SuccessiveLaw }
+{}
+
+/// Where points follow each other on a line, two or more of them, and at one height the move between each two neighbours is clear,
+/// the one move from the first to the last is clear, for a bit of some width.
+pub fn clear_run_law()
+    ensures { ClearRunLaw }
 {}
