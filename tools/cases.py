@@ -2,16 +2,21 @@
 
 import math
 
-from definitions import MOST_DEPTH, Bit, Move, Place, edges_of, nearest_point, passes_edge, squared_distance
+from definitions import MOST_DEPTH, Bit, Move, Spot, edges_of, nearest_point, passes_edge, squared_distance
 
 LEAST, MOST = -32768, 32767
 
-# decimals of a grid unit, and the G word, of each --units
-UNITS = {"mm10": (1, "G21"), "mm100": (2, "G21"), "mm1000": (3, "G21"), "in100": (2, "G20"), "in1000": (3, "G20")}
+# decimals of a tenth of a grid unit, and the G word, of each --units
+UNITS = {"mm10": (2, "G21"), "mm100": (3, "G21"), "mm1000": (4, "G21"), "in100": (3, "G20"), "in1000": (4, "G20")}
 
 
 def on_grid(x, y):
     return (min(max(x, LEAST), MOST), min(max(y, LEAST), MOST))
+
+
+def in_tenths(x, y):
+    """A place in tenths of a grid unit, brought into the range of G-code."""
+    return (min(max(x, 10 * LEAST), 10 * MOST), min(max(y, 10 * LEAST), 10 * MOST))
 
 
 def anywhere(rng, reach):
@@ -194,19 +199,39 @@ def box(edges, margin):
     return left, right, low, high
 
 
+def tenths_touching(edges, cone, p):
+    """The same in tenths of a grid unit, for a place in tenths."""
+    widest = 10 * cone.sd * cone.rmax // cone.sn
+    squared = min((squared_distance(p, nearest_point(p, edge)) for edge in scaled(edges)), default=None)
+    if squared is None:
+        return min(widest, 10 * MOST_DEPTH)
+    return min(widest, 10 * MOST_DEPTH, math.isqrt(int(squared * cone.sd**2 / cone.sn**2)))
+
+
+def scaled(edges):
+    """The edges in tenths of a grid unit."""
+    return [((10 * ax, 10 * ay), (10 * bx, 10 * by)) for (ax, ay), (bx, by) in edges]
+
+
 def level_depth(edges, cone, p, q):
-    """The greatest depth of a level move whose discs at the ends hold no edge, and between no end of an edge."""
+    """The greatest depth of a level move whose discs at the ends hold no edge, and between no end of an edge; in tenths."""
     # a disc over the path holds a corner where one over the corner holds a point of the path
-    corners = [touching_depth([(p, q)], cone, u) for u, _ in edges] if p != q else []
-    return min(touching_depth(edges, cone, p), touching_depth(edges, cone, q), *corners)
+    corners = [tenths_within(cone, u, (p, q)) for (u, _) in scaled(edges)] if p != q else []
+    return min(tenths_touching(edges, cone, p), tenths_touching(edges, cone, q), *corners)
+
+
+def tenths_within(cone, u, path):
+    """The greatest depth in tenths at which the disc over a corner holds no point of the path."""
+    squared = squared_distance(u, nearest_point(u, path))
+    return min(10 * MOST_DEPTH, math.isqrt(int(squared * cone.sd**2 / cone.sn**2)))
 
 
 def ramp_depth(edges, cone, p, start, q):
-    """A greatest depth at q to which a move from the depth start at p passes every edge; 0 if there is none."""
-    low, high = 0, touching_depth(edges, cone, q)
+    """A greatest depth at q to which a move from the height start at p passes every edge; 0 if there is none. In tenths."""
+    low, high = 0, tenths_touching(edges, cone, q)
     while low < high:
         middle = (low + high + 1) // 2
-        mv = Move(0, Place(*p, -start), Place(*q, -middle))
+        mv = Move(0, Spot(*p, start), Spot(*q, -middle))
         low, high = (middle, high) if all(passes_edge(cone, mv, edge) for edge in edges) else (low, middle - 1)
     return low
 
@@ -224,6 +249,13 @@ def spot(rng, edges):
     return on_grid(ax + k * (bx - ax) // parts + dx, ay + k * (by - ay) // parts + dy)
 
 
+def fine_spot(rng, edges):
+    """Such a point in tenths of a grid unit, sometimes a few tenths beside it."""
+    (x, y), beside = spot(rng, edges), rng.choice([0, 0, 1, 9])
+    dx, dy = anywhere(rng, beside)
+    return in_tenths(10 * x + dx, 10 * y + dy)
+
+
 # Codes
 
 
@@ -235,7 +267,7 @@ class Code:
         self.lines, self.moves, self.at, self.ended = [], [], {}, False
 
     def number(self, value):
-        """The value in grid units as a decimal, in one of its spellings."""
+        """The value in tenths of a grid unit as a decimal, in one of its spellings."""
         rng, digits = self.rng, str(abs(value)).zfill(self.decimals + 1)
         whole, part = digits[: -self.decimals], digits[-self.decimals :]
         part = rng.choice([part, part, part.rstrip("0"), part + "0" * rng.randint(0, 9)])
@@ -283,7 +315,7 @@ class Code:
         before = dict(self.at)
         self.at.update(axes)
         if len(before) == 3:
-            ends = [Place(at["x"], at["y"], at["z"]) for at in (before, self.at)]
+            ends = [Spot(at["x"], at["y"], at["z"]) for at in (before, self.at)]
             self.moves.append(Move(len(self.lines), *ends))
 
     def text(self):
@@ -301,42 +333,43 @@ def listed_code(rng, units):
     code = Code(rng, units, plain=False)
     for _ in range(rng.choice([0, 1, 3, 10, 40])):
         axes = rng.sample("xyz", rng.choice([1, 1, 2, 3]))
-        reach = rng.choice([9, 300, MOST])
-        at = {axis: rng.choice([rng.randint(-reach, reach), MOST, LEAST, 0]) for axis in axes}
+        reach = rng.choice([9, 300, 10 * MOST])
+        at = {axis: rng.choice([rng.randint(-reach, reach), 10 * MOST, 10 * LEAST, 0]) for axis in axes}
         if "z" in at:
             # the tip may not be below the surface before its place is known
-            at["z"] = max(at["z"], -MOST) if len(code.at) == 3 else abs(max(at["z"], -MOST))
+            at["z"] = max(at["z"], -10 * MOST) if len(code.at) == 3 else abs(max(at["z"], -10 * MOST))
         code.go(**at)
     return code
 
 
 def depth_at(rng, edges, cone, p, careful):
-    """A depth at p: what just touches, or less; where the code isn't careful also one more, at rmax, or beyond."""
-    touching, widest = touching_depth(edges, cone, p), cone.sd * cone.rmax // cone.sn
+    """A depth at p, in tenths: what just touches, or less; where the code isn't careful also one more, at rmax, or beyond."""
+    touching, widest = tenths_touching(edges, cone, p), 10 * cone.sd * cone.rmax // cone.sn
     depths = [touching, touching, touching - 1, rng.randint(0, touching)]
     depth = rng.choice(depths if careful else depths + [touching + 1, touching + 1, 1, widest, widest + 1])
-    return min(max(depth, 1), MOST_DEPTH)
+    return min(max(depth, 1), 10 * MOST_DEPTH)
 
 
 def next_place(rng, edges, reach, start):
-    """Where the next move ends: anywhere, through a vertex, along or beside an edge, near by, or where it is."""
+    """Where the next move ends, in tenths: anywhere, through a vertex, along or beside an edge, near by, or where it is."""
     where = rng.choice(["spot", "spot", "spot", "through", "along", "near", "axis", "stay"])
     if where == "stay":
         return start
     if where == "near":
-        return on_grid(start[0] + rng.randint(-2, 2), start[1] + rng.randint(-2, 2))
+        by = rng.choice([2, 20])
+        return in_tenths(start[0] + rng.randint(-by, by), start[1] + rng.randint(-by, by))
     if where == "axis":
         dx, dy = rng.choice([(1, 0), (0, 1), (1, 1), (1, -1)])
-        by = rng.randint(-reach, reach)
-        return on_grid(start[0] + by * dx, start[1] + by * dy)
+        by = rng.randint(-10 * reach, 10 * reach)
+        return in_tenths(start[0] + by * dx, start[1] + by * dy)
     if where == "spot" or not edges:
-        return spot(rng, edges)
-    (ax, ay), (bx, by) = rng.choice(edges)
+        return fine_spot(rng, edges)
+    (ax, ay), (bx, by) = rng.choice(scaled(edges))
     if where == "through":
-        return on_grid(2 * ax - start[0], 2 * ay - start[1])
+        return in_tenths(2 * ax - start[0], 2 * ay - start[1])
     parts = math.gcd(bx - ax, by - ay)
     k = rng.choice([-parts, parts, rng.randint(-parts, parts)])
-    return on_grid(start[0] + k * (bx - ax) // parts, start[1] + k * (by - ay) // parts)
+    return in_tenths(start[0] + k * (bx - ax) // parts, start[1] + k * (by - ay) // parts)
 
 
 class Tip:
@@ -345,13 +378,13 @@ class Tip:
     def __init__(self, rng, edges, reach, cone, inside):
         self.rng, self.edges, self.reach, self.cone, self.inside = rng, edges, reach, cone, inside
         self.careful = rng.random() < 0.7
-        self.at = self.roomy() if inside and rng.random() < 0.8 else spot(rng, edges)
-        self.h = rng.choice([0, 0, rng.randint(1, 9)])
+        self.at = self.roomy() if inside and rng.random() < 0.8 else fine_spot(rng, edges)
+        self.h = rng.choice([0, 0, rng.randint(1, 90)])
 
     def roomy(self):
         """A point inside, if it can be one of which no edge is too near for the least depth."""
-        some = self.rng.sample(self.inside, min(5, len(self.inside)))
-        return next((p for p in some if touching_depth(self.edges, self.cone, p) > 0), some[0])
+        some = [(10 * x, 10 * y) for x, y in self.rng.sample(self.inside, min(5, len(self.inside)))]
+        return next((p for p in some if tenths_touching(self.edges, self.cone, p) > 0), some[0])
 
     def below(self, p):
         return -depth_at(self.rng, self.edges, self.cone, p, self.careful)
@@ -359,30 +392,31 @@ class Tip:
     def step(self):
         """Moves the tip, and gives the axes that a line for it has to name, and sometimes others."""
         rng, old = self.rng, (*self.at, self.h)
-        if self.h > 0 and rng.random() < 0.8:
-            # mostly it goes down in place
+        if self.h > 0 and rng.random() < 0.4:
+            # often it goes down in place
             self.h = rng.choice([0, self.below(self.at), self.below(self.at)])
         else:
             aim = self.careful and self.inside and rng.random() < 0.7
             self.at = rng.choice([self.roomy(), self.at]) if aim else next_place(rng, self.edges, self.reach, self.at)
-            up, down = rng.choice([0, rng.randint(1, 9)]), self.below(self.at)
+            up, down = rng.choice([0, rng.randint(1, 90)]), self.below(self.at)
             self.h = rng.choice([up, self.h, self.h, down, down, down, down])
         new = (*self.at, self.h)
         named = {axis: value for axis, value, was in zip("xyz", new, old) if value != was or rng.random() < 0.2}
         return named or {"z": self.h}
 
-
     def closest(self):
-        """A way down in place, and from there a move as deep as it may just be, or one deeper."""
-        rng, q = self.rng, self.roomy() if self.inside else spot(self.rng, self.edges)
-        if rng.random() < 0.7:
-            first = last = level_depth(self.edges, self.cone, self.at, q) + rng.choice([0, 0, 1])
+        """A way down in place, or none, and from there a move as deep as it may just be, or one tenth deeper."""
+        rng, q = self.rng, self.roomy() if self.inside else fine_spot(self.rng, self.edges)
+        if rng.random() < 0.5:
+            last = level_depth(self.edges, self.cone, self.at, q) + rng.choice([0, 0, 1])
+            first = -last
         else:
-            first = rng.randint(0, touching_depth(self.edges, self.cone, self.at))
+            # from below the surface, or on a slope from above it
+            first = rng.choice([-rng.randint(0, tenths_touching(self.edges, self.cone, self.at)), rng.randint(1, 90)])
             last = ramp_depth(self.edges, self.cone, self.at, first, q) + rng.choice([0, 0, 1])
-        first, last = min(first, MOST_DEPTH), min(last, MOST_DEPTH)
+        first, last = max(first, -10 * MOST_DEPTH), min(last, 10 * MOST_DEPTH)
         self.at, self.h = q, -last
-        return {"z": -first}, {"x": q[0], "y": q[1], "z": -last}
+        return {"z": first}, {"x": q[0], "y": q[1], "z": -last}
 
 
 def checked_code(rng, edges, reach, cone, inside):

@@ -128,7 +128,7 @@ class Comparison:
             units = self.rng.choice(list(cases.UNITS))
             code = cases.listed_code(self.rng, units)
             path = self.write(f"listed{number}.ngc", code.text())
-            lines = [f"{mv.line} {','.join(map(str, mv.start))} {','.join(map(str, mv.end))}\n" for mv in code.moves]
+            lines = [f"{mv.line} {spot_text(mv.start)} {spot_text(mv.end)}\n" for mv in code.moves]
             words = ["moves", f"--code={path}", f"--units={units}"]
             self.agree("moves", (0, "".join(lines) + f"moves {len(code.moves)}\n"), self.run(*words), *words)
             self.spread["moves: listed"] += len(code.moves)
@@ -180,6 +180,11 @@ class Comparison:
         return self
 
 
+def spot_text(spot):
+    """The numbers of a spot in grid units, a decimal where they aren't whole."""
+    return ",".join(("-" if n < 0 else "") + f"{abs(n) // 10}" + (f".{abs(n) % 10}" if n % 10 else "") for n in spot)
+
+
 def due_of(found, moves):
     """The status and the text that are due."""
     if found is None:
@@ -191,9 +196,9 @@ def due_of(found, moves):
 def failing_tests(bit, mv, edge):
     """Which of the tests fail; the disc at the start is that at the end of the move before."""
     failing = []
-    if not all(definitions.is_edge_clear(bit, end.at, definitions.depth_of(end.h), edge) for end in (mv.start, mv.end)):
+    if not all(definitions.is_edge_clear(bit, end.at, definitions.depth_of(end.height), edge) for end in (mv.start, mv.end)):
         failing.append("end discs")
-    if not all(definitions.is_nowhere_negative(definitions.corner_margin(bit, mv, u)) for u in edge):
+    if not all(definitions.is_nowhere_negative(definitions.corner_margin(bit, mv, u), definitions.deep_part(mv)) for u in edge):
         failing.append("corners")
     if definitions.is_crossing(mv, edge):
         failing.append("crossing")

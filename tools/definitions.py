@@ -1,4 +1,4 @@
-"""The definitions of docs/DEFINITIONS.md as plain programs: exact, without haste, and as near to their words as can be.
+"""The definitions of docs/definitions/ as plain programs: exact, without haste, and as near to their words as can be.
 
 A point is a pair of whole or rational numbers, an edge a pair of points. Nothing here is taken from the tool's code:
 what a definition says of all points of an edge, or of all moments of a move, is decided by the least value there is.
@@ -18,8 +18,8 @@ class Bit(NamedTuple):
     rmax: int
 
 
-class Place(NamedTuple):
-    """A grid point and a height above the surface."""
+class Spot(NamedTuple):
+    """Where the tip is: two coordinates and the height above the surface, in tenths of a grid unit."""
 
     x: int
     y: int
@@ -27,15 +27,21 @@ class Place(NamedTuple):
 
     @property
     def at(self):
-        return (self.x, self.y)
+        """The place in grid units."""
+        return (Fraction(self.x, 10), Fraction(self.y, 10))
+
+    @property
+    def height(self):
+        """The height in grid units."""
+        return Fraction(self.h, 10)
 
 
 class Move(NamedTuple):
     """A straight move, with the number of its line."""
 
     line: int
-    start: Place
-    end: Place
+    start: Spot
+    end: Spot
 
 
 def edges_of(loops):
@@ -88,8 +94,8 @@ def nearest_point(p, edge):
 
 
 def is_closer(squared, bit, depth):
-    """The distance of this square is below sn depth / sd, the bit's radius; both sides times the denominators."""
-    return squared.numerator * bit.sd**2 < (bit.sn * depth) ** 2 * squared.denominator
+    """The distance of this square is below sn depth / sd, the bit's radius."""
+    return squared * bit.sd**2 < (bit.sn * depth) ** 2
 
 
 def is_in_disc(bit, p, depth, w):
@@ -122,30 +128,33 @@ def greatest_depth(edges, bit, limit, p):
     return max(z for z in range(limit + 1) if fits(z))
 
 
-def depth_of(h):
-    return max(0, -h)
+def depth_of(height):
+    return max(0, -height)
 
 
 def is_deep(mv):
-    return depth_of(mv.start.h) > 0 or depth_of(mv.end.h) > 0
+    return depth_of(mv.start.height) > 0 or depth_of(mv.end.height) > 0
 
 
 def is_too_deep(bit, mv):
-    return is_too_wide(bit, depth_of(mv.start.h)) or is_too_wide(bit, depth_of(mv.end.h))
+    return is_too_wide(bit, depth_of(mv.start.height)) or is_too_wide(bit, depth_of(mv.end.height))
 
 
-def is_slant(mv):
-    """One height is above the surface and the other below it, and the places differ."""
-    low, high = sorted((mv.start.h, mv.end.h))
-    return low < 0 < high and mv.start.at != mv.end.at
+def deep_part(mv):
+    """The first and the last moment of the part of a deep move at which it isn't above the surface."""
+    first, last = mv.start.height, mv.end.height
+    return (
+        first / (first - last) if first > 0 else Fraction(0),
+        first / (first - last) if last > 0 else Fraction(1),
+    )
 
 
 def corner_margin(bit, mv, u):
-    """A, B and C of |p0 + s (p1 - p0) - u|^2 sd^2 - sn^2 (z0 + s (z1 - z0))^2."""
+    """A, B and C of |p0 + s (p1 - p0) - u|^2 sd^2 - sn^2 (h0 + s (h1 - h0))^2."""
     (x0, y0), (x1, y1) = mv.start.at, mv.end.at
-    z0, z1 = depth_of(mv.start.h), depth_of(mv.end.h)
+    h0, h1 = mv.start.height, mv.end.height
     # each of the squared terms is (first + s by)^2, with its factor
-    terms = [(x0 - u[0], x1 - x0, bit.sd**2), (y0 - u[1], y1 - y0, bit.sd**2), (z0, z1 - z0, -(bit.sn**2))]
+    terms = [(x0 - u[0], x1 - x0, bit.sd**2), (y0 - u[1], y1 - y0, bit.sd**2), (h0, h1 - h0, -(bit.sn**2))]
     return (
         sum(k * by * by for first, by, k in terms),
         sum(k * 2 * first * by for first, by, k in terms),
@@ -158,17 +167,17 @@ def value_at(quadratic, s):
     return a * s * s + b * s + c
 
 
-def lowest_moment(quadratic):
-    """The moment from 0 to 1 at which A s^2 + B s + C is least: an end, or where the parabola turns."""
+def lowest_moment(quadratic, part):
+    """The moment of the part at which A s^2 + B s + C is least: an end, or where the parabola turns."""
     a, b, _ = quadratic
-    moments = [0, 1]
-    if a != 0 and 0 < Fraction(-b, 2 * a) < 1:
-        moments.append(Fraction(-b, 2 * a))
+    moments = list(part)
+    if a != 0 and part[0] < Fraction(-b) / (2 * a) < part[1]:
+        moments.append(Fraction(-b) / (2 * a))
     return min(moments, key=lambda s: value_at(quadratic, s))
 
 
-def is_nowhere_negative(quadratic):
-    return value_at(quadratic, lowest_moment(quadratic)) >= 0
+def is_nowhere_negative(quadratic, part):
+    return value_at(quadratic, lowest_moment(quadratic, part)) >= 0
 
 
 def side(a, b, w):
@@ -182,21 +191,23 @@ def are_parted(a, b, v, w):
 
 
 def is_crossing(mv, edge):
-    return are_parted(*edge, mv.start.at, mv.end.at) and are_parted(mv.start.at, mv.end.at, *edge)
+    """The places at the ends of the deep part are parted by the edge's line, and the edge's ends by the path's."""
+    first, last = (place_at(mv, s) for s in deep_part(mv))
+    return are_parted(*edge, first, last) and are_parted(mv.start.at, mv.end.at, *edge)
 
 
 def passes_edge(bit, mv, edge):
     """The three tests: the discs at the ends, the two corners, no crossing."""
     return (
-        is_edge_clear(bit, mv.start.at, depth_of(mv.start.h), edge)
-        and is_edge_clear(bit, mv.end.at, depth_of(mv.end.h), edge)
-        and all(is_nowhere_negative(corner_margin(bit, mv, u)) for u in edge)
+        is_edge_clear(bit, mv.start.at, depth_of(mv.start.height), edge)
+        and is_edge_clear(bit, mv.end.at, depth_of(mv.end.height), edge)
+        and all(is_nowhere_negative(corner_margin(bit, mv, u), deep_part(mv)) for u in edge)
         and not is_crossing(mv, edge)
     )
 
 
 def first_deep(mv):
-    return mv.start.at if depth_of(mv.start.h) > 0 else mv.end.at
+    return mv.start.at if depth_of(mv.start.height) > 0 else mv.end.at
 
 
 def named_edge(failing):
@@ -209,8 +220,6 @@ def fault_of(edges, bit, mv):
         return None
     if is_too_deep(bit, mv):
         return ("too deep", None)
-    if is_slant(mv):
-        return ("slant", None)
     failing = [number for number, edge in enumerate(edges) if not passes_edge(bit, mv, edge)]
     if failing:
         return ("gouge", named_edge(failing))
@@ -227,11 +236,12 @@ def verdict(edges, bit, moves):
 
 
 def place_at(mv, s):
-    return (on_the_way(mv.start.x, mv.end.x, s), on_the_way(mv.start.y, mv.end.y, s))
+    (x0, y0), (x1, y1) = mv.start.at, mv.end.at
+    return (on_the_way(x0, x1, s), on_the_way(y0, y1, s))
 
 
 def depth_at(mv, s):
-    return -on_the_way(mv.start.h, mv.end.h, s)
+    return -on_the_way(mv.start.height, mv.end.height, s)
 
 
 def is_removed(bit, mv, s, w):

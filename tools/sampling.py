@@ -4,6 +4,7 @@ from fractions import Fraction
 
 from definitions import (
     corner_margin,
+    deep_part,
     depth_at,
     is_inside,
     is_removed,
@@ -16,7 +17,7 @@ from definitions import (
 )
 
 
-def part(rng):
+def fraction(rng):
     """A rational number from 0 to 1."""
     over = rng.randint(1, 10 ** rng.randint(1, 4))
     return Fraction(rng.randint(0, over), over)
@@ -29,11 +30,12 @@ def point_of(edge, s):
 
 def moments_about(rng, bit, mv, edge):
     """The ends, moments at which the edge is likely to be met, and some at random."""
-    moments = [Fraction(0), Fraction(1)] + [lowest_moment(corner_margin(bit, mv, u)) for u in edge]
+    part = deep_part(mv)
+    moments = [Fraction(0), Fraction(1), *part] + [lowest_moment(corner_margin(bit, mv, u), part) for u in edge]
     start, end = side(*edge, mv.start.at), side(*edge, mv.end.at)
     if start * end < 0:
         moments.append(Fraction(start, start - end))
-    return moments + [part(rng), part(rng)]
+    return moments + [fraction(rng), fraction(rng)]
 
 
 def just_touches(rng, bit, mv, edge):
@@ -49,7 +51,7 @@ def edge_witness(rng, bit, mv, edge):
     """A moment that removes a point of the edge, and that point, if there is one among the samples."""
     for s in moments_about(rng, bit, mv, edge):
         if depth_at(mv, s) > 0:
-            for w in (nearest_point(place_at(mv, s), edge), *edge, point_of(edge, part(rng))):
+            for w in (nearest_point(place_at(mv, s), edge), *edge, point_of(edge, fraction(rng))):
                 if is_removed(bit, mv, s, w):
                     return s, w
     return None
@@ -57,14 +59,14 @@ def edge_witness(rng, bit, mv, edge):
 
 def removed_points(rng, bit, mv):
     """Moments and points that they remove: near the rim of the disc, at its middle, and anywhere in it."""
-    for s in (Fraction(0), Fraction(1), part(rng), part(rng), part(rng)):
+    for s in (Fraction(0), Fraction(1), *deep_part(mv), fraction(rng), fraction(rng), fraction(rng)):
         depth, (x, y) = depth_at(mv, s), place_at(mv, s)
         if depth <= 0:
             continue
         radius = Fraction(bit.sn) * depth / bit.sd
-        for share in (0, part(rng), *[1 - Fraction(1, 10 ** rng.randint(1, 9)) for _ in range(5)]):
+        for share in (0, fraction(rng), *[1 - Fraction(1, 10 ** rng.randint(1, 9)) for _ in range(5)]):
             # ((1 - t^2) / (1 + t^2), 2 t / (1 + t^2)) is a rational point of the unit circle
-            t = part(rng) * rng.choice([-1, 1])
+            t = fraction(rng) * rng.choice([-1, 1])
             length = share * radius / (1 + t * t) * rng.choice([-1, 1])
             w = (x + length * (1 - t * t), y + length * 2 * t)
             if is_removed(bit, mv, s, w):

@@ -11,10 +11,29 @@ def nearer_end(p, edge):
     return min(edge, key=lambda u: d.squared_distance(p, u))
 
 
-def lowest_of_all(quadratic):
-    """The moment of the lowest point wherever it is, also before the start and after the end."""
+def lowest_of_all(quadratic, part):
+    """The moment of the lowest point wherever it is, also before the part and after it."""
     a, b, _ = quadratic
-    return d.Fraction(-b, 2 * a) if a > 0 else d.Fraction(0)
+    return d.Fraction(-b) / (2 * a) if a > 0 else part[0]
+
+
+def turned_part(mv):
+    """The deep part of the move in the other direction."""
+    first, last = mv.start.height, mv.end.height
+    return (
+        d.Fraction(-last) / (first - last) if first > 0 else d.Fraction(0),
+        d.Fraction(-last) / (first - last) if last > 0 else d.Fraction(1),
+    )
+
+
+def clamped_margin(bit, mv, u):
+    """The margin of a depth that goes evenly from that of the start to that of the end, 0 from the surface up."""
+    ends = (mv.start, mv.end)
+    below = [d.Spot(end.x, end.y, min(end.h, 0)) for end in ends]
+    return MARGIN(bit, d.Move(mv.line, *below), u)
+
+
+MARGIN = d.corner_margin
 
 
 def meets_line(mv, edge):
@@ -39,11 +58,12 @@ WRONG = {
     "ends-of-edges-alone": ("nearest_point", nearer_end),
     "rmax-excluded": ("is_too_wide", lambda bit, z: bit.sn * z >= bit.sd * bit.rmax),
     "limit-excluded": ("is_within", lambda z, limit: z < limit),
-    "any-height-slant": ("is_slant", lambda mv: (mv.start.h < 0) != (mv.end.h < 0) and mv.start.at != mv.end.at),
-    "plunge-slant": ("is_slant", lambda mv: min(mv.start.h, mv.end.h) < 0 < max(mv.start.h, mv.end.h)),
-    "end-discs-alone": ("is_nowhere_negative", lambda q: q[2] >= 0 and sum(q) >= 0),
+    "whole-move-as-part": ("deep_part", lambda mv: (d.Fraction(0), d.Fraction(1))),
+    "part-from-the-wrong-end": ("deep_part", turned_part),
+    "clamped-depth": ("corner_margin", clamped_margin),
+    "end-discs-alone": ("is_nowhere_negative", lambda q, part: all(d.value_at(q, s) >= 0 for s in part)),
     "lowest-of-all": ("lowest_moment", lowest_of_all),
-    "touched-corner": ("is_nowhere_negative", lambda q: d.value_at(q, d.lowest_moment(q)) > 0),
+    "touched-corner": ("is_nowhere_negative", lambda q, part: d.value_at(q, d.lowest_moment(q, part)) > 0),
     "no-crossing": ("is_crossing", lambda mv, edge: False),
     "line-of-edge": ("is_crossing", meets_line),
     "touching-crosses": ("are_parted", touches),
