@@ -149,10 +149,11 @@ def judge_word(letter, text, said, units):
     if letter == b"M" and value not in (2, 3, 4, 5, 7, 8, 9, 30):
         raise ValueError("word")
     if letter in b"XYZ":
-        value *= PER_UNIT[units]
+        # in tenths of a grid unit
+        value *= 10 * PER_UNIT[units]
         if value.denominator != 1:
             raise ValueError("off grid")
-        if not (-32_768 if letter != b"Z" else -32_767) <= value <= 32_767:
+        if not (-327_680 if letter != b"Z" else -327_670) <= value <= 327_670:
             raise ValueError("out of range")
     said[key or letter + (b" last" if letter == b"M" and value in (2, 30) else b"")] = int(value)
 
@@ -171,6 +172,12 @@ def said_by(line, units):
     return said
 
 
+def shown_number(tenths):
+    """A number of tenths in grid units, with a decimal where it isn't whole."""
+    sign, size = b"-" if tenths < 0 else b"", abs(tenths)
+    return sign + b"%d" % (size // 10) + (b".%d" % (size % 10) if size % 10 else b"")
+
+
 def moves_of(text, units):
     """The moves of a code, as the program lists them."""
     place, moves = {}, []
@@ -183,7 +190,7 @@ def moves_of(text, units):
         except ValueError as fault:
             raise Refusal(3, b"input code line %d %s\n" % (line, str(fault).encode())) from None
         if len(place) == 3 and said.keys() & place.keys():
-            ends = [b"%d,%d,%d" % (end[b"X"], end[b"Y"], end[b"Z"]) for end in (place, after)]
+            ends = [b",".join(shown_number(end[letter]) for letter in (b"X", b"Y", b"Z")) for end in (place, after)]
             moves.append(b"%d %s %s\n" % (line, *ends))
         place = after
         if b"M last" in said:

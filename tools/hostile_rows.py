@@ -7,15 +7,15 @@ import re
 
 # The lines that the program prints, by status, and for the first two by command too.
 COUNT = rb"(0|[1-9][0-9]*)"
-PLACE = rb",".join([rb"(0|-?[1-9][0-9]{0,4})"] * 3)
-MOVE = re.compile(rb"[1-9][0-9]* " + PLACE + b" " + PLACE + rb"\n")
+SPOT = rb",".join([rb"(0|-?[1-9][0-9]{0,4}|-?(0|[1-9][0-9]{0,4})\.[1-9])"] * 3)
+MOVE = re.compile(rb"[1-9][0-9]* " + SPOT + b" " + SPOT + rb"\n")
 LOOPS_KINDS = rb" (syntax|out of range|same point|too many|short)"
 CODE_KINDS = rb" (word|number|off grid|twice|units|incremental|unplaced|out of range|long line|open comment|too many)"
 FORMS = {
     (b"probe", 0): rb"depth (0|[1-9][0-9]{0,4})\n",
     (b"moves", 0): rb"moves " + COUNT + rb"\n",
     (b"check", 0): rb"clear " + COUNT + rb" moves\n",
-    (b"check", 1): rb"line [1-9][0-9]* (too deep|slant|gouge edge " + COUNT + rb"|outside)\n",
+    (b"check", 1): rb"line [1-9][0-9]* (too deep|gouge edge " + COUNT + rb"|outside)\n",
     2: rb"usage\n",
     3: rb"input (too long (drawing|code)|loops " + COUNT + LOOPS_KINDS + rb"|code line [1-9][0-9]*" + CODE_KINDS + rb")\n",
     4: rb"absent (drawing|code)\n",
@@ -150,12 +150,17 @@ CODES = [
     (b"G" + b"9" * 28, 3, "input code line 1 number"),
     (b"F" + b"9" * 27 + b"S." + b"0" * 400 + b"1", 0, "moves 0"),
     (b"F1." + b"0" * 27, 3, "input code line 1 number"),
-    (b"X1.005\n", 3, "input code line 1 off grid"),
+    (b"X1.005\n", 0, "moves 0"),
+    (b"X1.00500\n", 0, "moves 0"),
+    (b"X1.0005\n", 3, "input code line 1 off grid"),
+    (b"G0 Z2\nG0 X0.105 Y5\nG1 Z-0.105\n", 0, "3 10.5,500,200 10.5,500,-10.5\nmoves 1"),
+    (b"X0Y0Z0\nX-.001Z.009\n", 0, "2 0,0,0 -0.1,0,0.9\nmoves 1"),
     (b"X." + b"0" * 400 + b"1\n", 3, "input code line 1 off grid"),
     (b"X327.67 Y-327.68 Z327.67\nX-327.68 Y327.67 Z-327.67\n", 0, "2 32767,-32768,32767 -32768,32767,-32767\nmoves 1"),
-    (b"X327.68\n", 3, "input code line 1 out of range"),
-    (b"Y-327.69\n", 3, "input code line 1 out of range"),
-    (b"Z-327.68\n", 3, "input code line 1 out of range"),
+    (b"X327.671\n", 3, "input code line 1 out of range"),
+    (b"Y-327.681\n", 3, "input code line 1 out of range"),
+    (b"Z-327.671\n", 3, "input code line 1 out of range"),
+    (b"Z327.671\n", 3, "input code line 1 out of range"),
     (b"X" + b"9" * 27, 3, "input code line 1 out of range"),
     (b"X" + b"9" * 28, 3, "input code line 1 number"),
     (b"X--1\n", 3, "input code line 1 number"),
@@ -186,7 +191,11 @@ CHECKS = [
     (ANGLE, b"", 0, "clear 0 moves"),
     (ANGLE, DOWN.replace(b"X1 Y1", b"X3 Y1"), 1, "line 5 gouge edge 2"),
     (ANGLE, DOWN.replace(b"Z-1", b"Z-2.01"), 1, "line 4 too deep"),
-    (ANGLE, DOWN.replace(b"X1 Y1", b"X1 Y1 Z1"), 1, "line 5 slant"),
+    (ANGLE, DOWN.replace(b"X1 Y1", b"X1 Y1 Z1"), 0, "clear 2 moves"),
+    # The bit meets the surface just over the inner corner, or a tenth of a grid unit beyond it.
+    (ANGLE, b"G0 Z1\nG0 X1 Y3\nG1 X3 Y1 Z-1", 0, "clear 1 moves"),
+    (ANGLE, b"G0 Z0.5\nG0 X1 Y3\nG1 X3 Y1 Z-1", 1, "line 3 gouge edge 2"),
+    (ANGLE, b"G0 Z0.999\nG0 X1 Y3\nG1 X3 Y1 Z-1", 1, "line 3 gouge edge 2"),
     (ANGLE, DOWN.replace(b"X1 Y3", b"X9 Y9"), 1, "line 4 outside"),
     (b"", DOWN, 1, "line 4 outside"),
     (b"", b"X0Y0Z0\nX9Y9\nX-9", 0, "clear 2 moves"),
