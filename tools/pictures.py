@@ -74,7 +74,60 @@ def levels():
     return svg(480, 320, parts)
 
 
+def disc(x, y, radius, colour="#c00"):
+    return f'<circle cx="{x}" cy="{y}" r="{radius}" fill="{colour}" fill-opacity="0.12" stroke="{colour}"/>'
+
+
+def witness_at_an_end():
+    """The disc at an end of the move holds a point of the edge: the moment is that end's."""
+    parts = [
+        line(60, 70, 420, 70, "black", 2),
+        text(440, 74, "edge"),
+        line(120, 260, 300, 140, "#06c", 2, 'marker-end="url(#tip)"'),
+        disc(300, 140, 90),
+        dot(300, 140, "#06c"),
+        dot(300, 70, "#c00"),
+        text(300, 60, "w, the nearest point"),
+        text(110, 276, "start"),
+        text(330, 160, "an end: the moment", "start"),
+    ]
+    return svg(480, 300, parts)
+
+
+def witness_at_a_corner():
+    """A disc on the way holds an end of the edge: the moment is that at which the margin is least."""
+    parts = [
+        line(240, 130, 400, 30, "black", 2),
+        text(410, 34, "edge", "start"),
+        line(60, 200, 420, 200, "#06c", 2, 'marker-end="url(#tip)"'),
+        disc(240, 200, 90),
+        dot(240, 200, "#06c"),
+        text(240, 222, "the moment -B / 2A"),
+        dot(240, 130, "#c00"),
+        text(228, 126, "u", "end"),
+        text(60, 190, "start"),
+    ]
+    return svg(480, 300, parts)
+
+
+def witness_at_a_crossing():
+    """Path and edge cross: at the moment of the crossing the tip is below the surface, over the edge."""
+    parts = [
+        line(90, 40, 330, 260, "black", 2),
+        text(340, 272, "edge"),
+        line(60, 231, 390, 11, "#06c", 2, 'marker-end="url(#tip)"'),
+        dot(198, 139, "#c00"),
+        disc(198, 139, 34),
+        text(240, 120, "w, and the tip over it", "start"),
+        text(60, 268, "first moment of the part"),
+        text(400, 50, "last moment"),
+    ]
+    return svg(480, 300, parts)
+
+
+PICTURES = [ray, levels, witness_at_an_end, witness_at_a_corner, witness_at_a_crossing]
+
 if __name__ == "__main__":
     FOLDER.mkdir(parents=True, exist_ok=True)
-    (FOLDER / "ray.svg").write_text(ray())
-    (FOLDER / "levels.svg").write_text(levels())
+    for picture in PICTURES:
+        (FOLDER / f"{picture.__name__}.svg").write_text(picture())
