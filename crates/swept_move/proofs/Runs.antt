@@ -61,6 +61,27 @@ reached_there cone p q p' q' s s' c w same reached =
       close = closer_scaled (pos cone.sn) (pos cone.sd) c _ _ s.n D s.n _ _ s'.n D' s'.n w.x w.y w.over same.some same.across same.up same.whole deeper same.whole reached.close;
     }
 
+-- ---- a motion and the one back
+
+-- the moment at which the tip is there on the way back
+abbrev back : Moment → Moment
+back s = record { k = s.n -ℤ s.k; n = s.n; start = (let finish = s.finish in omega (arith, ints)); finish = (let start = s.start in omega (arith, ints)); some = s.some }
+
+same_back : (k n f l : ℤ) → (n -ℤ (n -ℤ k)) *ℤ l +ℤ (n -ℤ k) *ℤ f ≡ pos 1 *ℤ ((n -ℤ k) *ℤ f +ℤ k *ℤ l)
+same_back k n f l = ring (k ∷ n ∷ f ∷ l ∷ []) ((V 1 ⊖ (V 1 ⊖ V 0)) ⊗ V 3 ⊕ (V 1 ⊖ V 0) ⊗ V 2) (K (pos 1) ⊗ ((V 1 ⊖ V 0) ⊗ V 2 ⊕ V 0 ⊗ V 3)) tt
+
+reached_back : (cone : Cone) (p q : GridPlace) (s : Moment) (w : RationalPoint) → IsReached cone (sweep_between p q) s w → IsReached cone (sweep_between q p) (back s) w
+reached_back cone p q s w = reached_there cone p q q p s (back s) (pos 1) w (record {
+  some = omega (arith, ints);
+  across = same_back s.k s.n p.at.x q.at.x;
+  up = same_back s.k s.n p.at.y q.at.y;
+  height = same_back s.k s.n p.h q.h;
+  whole = ring (s.n ∷ []) (V 0) (K (pos 1) ⊗ V 0) tt;
+})
+
+pub spares_back : (cone : Cone) (p q : GridPlace) (w : RationalPoint) → Spares cone p q w → Spares cone q p w
+spares_back cone p q w spares s reached = spares (back s) (reached_back cone q p s w reached)
+
 -- ---- a motion in two parts
 
 -- m divides the way from f to l as i to j
@@ -72,6 +93,16 @@ pub record IsJoinedAt (i j : ℤ) (p m q : GridPlace) : Type 0 where
   pub up : IsDividedAt i j p.at.y m.at.y q.at.y
   pub height : IsDividedAt i j p.h m.h q.h
 
+divided_back : (i j f m l : ℤ) → IsDividedAt i j f m l → IsDividedAt j i l m f
+divided_back i j f m l divided = ring (i ∷ j ∷ m ∷ []) ((V 1 ⊕ V 0) ⊗ V 2) ((V 0 ⊕ V 1) ⊗ V 2) tt ∙ divided ∙ ring (i ∷ j ∷ f ∷ l ∷ []) (V 1 ⊗ V 2 ⊕ V 0 ⊗ V 3) (V 0 ⊗ V 3 ⊕ V 1 ⊗ V 2) tt
+
+pub joined_back : (i j : ℤ) (p m q : GridPlace) → IsJoinedAt i j p m q → IsJoinedAt j i q m p
+joined_back i j p m q joined = record {
+  across = divided_back i j p.at.x m.at.x q.at.x joined.across;
+  up = divided_back i j p.at.y m.at.y q.at.y joined.up;
+  height = divided_back i j p.h m.h q.h joined.height;
+}
+
 in_first : (i j k n f m l : ℤ) → IsDividedAt i j f m l → (n *ℤ i -ℤ k *ℤ (i +ℤ j)) *ℤ f +ℤ (k *ℤ (i +ℤ j)) *ℤ m ≡ i *ℤ ((n -ℤ k) *ℤ f +ℤ k *ℤ l)
 in_first i j k n f m l divided =
     let xs = i ∷ j ∷ k ∷ n ∷ f ∷ m ∷ l ∷ [] in
@@ -79,44 +110,27 @@ in_first i j k n f m l divided =
     ∙ ap (λ z. (n *ℤ i -ℤ k *ℤ (i +ℤ j)) *ℤ f +ℤ k *ℤ z) divided
     ∙ ring xs ((V 3 ⊗ V 0 ⊖ V 2 ⊗ (V 0 ⊕ V 1)) ⊗ V 4 ⊕ V 2 ⊗ (V 1 ⊗ V 4 ⊕ V 0 ⊗ V 6)) (V 0 ⊗ ((V 3 ⊖ V 2) ⊗ V 4 ⊕ V 2 ⊗ V 6)) tt
 
-in_second : (i j k n f m l : ℤ) → IsDividedAt i j f m l → (n *ℤ j -ℤ (k *ℤ (i +ℤ j) -ℤ n *ℤ i)) *ℤ m +ℤ (k *ℤ (i +ℤ j) -ℤ n *ℤ i) *ℤ l ≡ j *ℤ ((n -ℤ k) *ℤ f +ℤ k *ℤ l)
-in_second i j k n f m l divided =
-    let xs = i ∷ j ∷ k ∷ n ∷ f ∷ m ∷ l ∷ [] in
-    let past = V 2 ⊗ (V 0 ⊕ V 1) ⊖ V 3 ⊗ V 0 in
-    ring xs ((V 3 ⊗ V 1 ⊖ past) ⊗ V 5 ⊕ past ⊗ V 6) ((V 3 ⊖ V 2) ⊗ ((V 0 ⊕ V 1) ⊗ V 5) ⊕ past ⊗ V 6) tt
-    ∙ ap (λ z. (n -ℤ k) *ℤ z +ℤ (k *ℤ (i +ℤ j) -ℤ n *ℤ i) *ℤ l) divided
-    ∙ ring xs ((V 3 ⊖ V 2) ⊗ (V 1 ⊗ V 4 ⊕ V 0 ⊗ V 6) ⊕ past ⊗ V 6) (V 1 ⊗ ((V 3 ⊖ V 2) ⊗ V 4 ⊕ V 2 ⊗ V 6)) tt
+-- the moment is one of the first part
+reached_first : (cone : Cone) (i j : ℤ) (p m q : GridPlace) (w : RationalPoint) → pos 0 ≤ℤ j → IsJoinedAt i j p m q → (s : Moment) → pos 1 ≤ℤ i → (s.k *ℤ (i +ℤ j)) ≤ℤ (s.n *ℤ i)
+    → Spares cone p m w → ¬ IsReached cone (sweep_between p q) s w
+reached_first cone i j p m q w least_j joined s first early spares reached =
+    let some = s.some in
+    let least = times_pos s.n i (omega (arith, ints)) (omega (arith, ints)) in
+    let s' : Moment = record { k = s.k *ℤ (i +ℤ j); n = s.n *ℤ i; start = times_nonneg s.k (i +ℤ j) s.start (omega (arith, ints)); finish = early; some = omega (arith, ints) } in
+    spares s' (reached_there cone p q p m s s' i w (record {
+      some = omega (arith, ints);
+      across = in_first i j s.k s.n p.at.x m.at.x q.at.x joined.across;
+      up = in_first i j s.k s.n p.at.y m.at.y q.at.y joined.up;
+      height = in_first i j s.k s.n p.h m.h q.h joined.height;
+      whole = ring (s.n ∷ i ∷ []) (V 0 ⊗ V 1) (V 1 ⊗ V 0) tt;
+    }) reached)
 
 module _ (cone : Cone) (i j : ℤ) (p m q : GridPlace) (w : RationalPoint) (least_i : pos 0 ≤ℤ i) (least_j : pos 0 ≤ℤ j) (long : pos 1 ≤ℤ (i +ℤ j)) (joined : IsJoinedAt i j p m q) where
-  -- the moment is one of the first part
-  reached_first : (s : Moment) → pos 1 ≤ℤ i → (s.k *ℤ (i +ℤ j)) ≤ℤ (s.n *ℤ i) → Spares cone p m w → ¬ IsReached cone (sweep_between p q) s w
-  reached_first s first early spares reached =
-      let some = s.some in
-      let least = times_pos s.n i (omega (arith, ints)) (omega (arith, ints)) in
-      let s' : Moment = record { k = s.k *ℤ (i +ℤ j); n = s.n *ℤ i; start = times_nonneg s.k (i +ℤ j) s.start (omega (arith, ints)); finish = early; some = omega (arith, ints) } in
-      spares s' (reached_there cone p q p m s s' i w (record {
-        some = omega (arith, ints);
-        across = in_first i j s.k s.n p.at.x m.at.x q.at.x joined.across;
-        up = in_first i j s.k s.n p.at.y m.at.y q.at.y joined.up;
-        height = in_first i j s.k s.n p.h m.h q.h joined.height;
-        whole = ring (s.n ∷ i ∷ []) (V 0 ⊗ V 1) (V 1 ⊗ V 0) tt;
-      }) reached)
-
-  -- or of the second
+  -- or of the second, which is the first of the way back
   reached_second : (s : Moment) → pos 1 ≤ℤ j → (s.n *ℤ i) ≤ℤ (s.k *ℤ (i +ℤ j)) → Spares cone m q w → ¬ IsReached cone (sweep_between p q) s w
   reached_second s second late spares reached =
-      let some = s.some in
-      let least = times_pos s.n j (omega (arith, ints)) (omega (arith, ints)) in
-      let rest = times_nonneg (s.n -ℤ s.k) (i +ℤ j) (let finish = s.finish in omega (arith, ints)) (omega (arith, ints)) in
-      let sum = ring (s.k ∷ s.n ∷ i ∷ j ∷ []) ((V 1 ⊖ V 0) ⊗ (V 2 ⊕ V 3)) (V 1 ⊗ V 2 ⊕ V 1 ⊗ V 3 ⊖ V 0 ⊗ (V 2 ⊕ V 3)) tt in
-      let s' : Moment = record { k = s.k *ℤ (i +ℤ j) -ℤ s.n *ℤ i; n = s.n *ℤ j; start = omega (arith, ints); finish = omega (arith, ints); some = omega (arith, ints) } in
-      spares s' (reached_there cone p q m q s s' j w (record {
-        some = omega (arith, ints);
-        across = in_second i j s.k s.n p.at.x m.at.x q.at.x joined.across;
-        up = in_second i j s.k s.n p.at.y m.at.y q.at.y joined.up;
-        height = in_second i j s.k s.n p.h m.h q.h joined.height;
-        whole = ring (s.n ∷ j ∷ []) (V 0 ⊗ V 1) (V 1 ⊗ V 0) tt;
-      }) reached)
+      let sum = ring (s.k ∷ s.n ∷ i ∷ j ∷ []) ((V 1 ⊖ V 0) ⊗ (V 3 ⊕ V 2)) (V 1 ⊗ V 2 ⊕ V 1 ⊗ V 3 ⊖ V 0 ⊗ (V 2 ⊕ V 3)) tt in
+      reached_first cone j i q m p w least_i (joined_back i j p m q joined) (back s) second (omega (arith, ints)) (spares_back cone m q w spares) (reached_back cone p q s w reached)
 
   -- it is one of the first where the second has no length, and one of the second where the first has none
   pub joined_spares : Spares cone p m w → Spares cone m q w → Spares cone p q w
@@ -130,8 +144,8 @@ module _ (cone : Cone) (i j : ℤ) (p m q : GridPlace) (w : RationalPoint) (leas
       (λ first. by_lt_z (pos 0) j
       (λ second. by_lt_z (s.n *ℤ i) (s.k *ℤ (i +ℤ j))
       (λ late. reached_second s (omega (arith, ints)) (omega (arith, ints)) after reached)
-      (λ early. reached_first s (omega (arith, ints)) (omega (arith, ints)) before reached))
-      (λ none. let all = ap (λ z. s.k *ℤ z) (let e : i +ℤ j ≡ i = omega (arith, ints) in e) in reached_first s (omega (arith, ints)) (omega (arith, ints)) before reached))
+      (λ early. reached_first cone i j p m q w least_j joined s (omega (arith, ints)) (omega (arith, ints)) before reached))
+      (λ none. let all = ap (λ z. s.k *ℤ z) (let e : i +ℤ j ≡ i = omega (arith, ints) in e) in reached_first cone i j p m q w least_j joined s (omega (arith, ints)) (omega (arith, ints)) before reached))
       (λ none. let all = ap (λ z. s.n *ℤ z) (let e : i ≡ pos 0 = omega (arith, ints) in e) in reached_second s (omega (arith, ints)) (omega (arith, ints)) after reached)
 
 -- ---- a run of equal steps

@@ -8,7 +8,7 @@ use Rattle.plane_exact.specs.Heights.{GridPlace}
 use Rattle.plane_exact.specs.Plane.{RationalPoint}
 use Rattle.engrave_model.specs.Removal.{Moment, between}
 use Rattle.swept_move.specs.Motion.{IsOnWay, JoinLaw, Spares, SuccessiveLaw}
-use Rattle.swept_move.proofs.Runs.{IsDividedAt, IsJoinedAt, joined_spares, kept_spares, reached_there, spared_keeps}
+use Rattle.swept_move.proofs.Runs.{IsDividedAt, IsJoinedAt, joined_back, joined_spares, kept_spares, reached_there, spared_keeps, spares_back}
 
 -- ---- the parts of a motion spare what it spares
 
@@ -20,51 +20,28 @@ whole_first i j k n f m l divided =
     ∙ ap (λ z. (i +ℤ j) *ℤ ((n -ℤ k) *ℤ f) +ℤ k *ℤ z) (sym divided)
     ∙ ring xs ((V 0 ⊕ V 1) ⊗ ((V 3 ⊖ V 2) ⊗ V 4) ⊕ V 2 ⊗ ((V 0 ⊕ V 1) ⊗ V 5)) ((V 0 ⊕ V 1) ⊗ ((V 3 ⊖ V 2) ⊗ V 4 ⊕ V 2 ⊗ V 5)) tt
 
--- and so is that of the second
-whole_second : (i j k n f m l : ℤ) → IsDividedAt i j f m l → (n *ℤ (i +ℤ j) -ℤ (n *ℤ i +ℤ k *ℤ j)) *ℤ f +ℤ (n *ℤ i +ℤ k *ℤ j) *ℤ l ≡ (i +ℤ j) *ℤ ((n -ℤ k) *ℤ m +ℤ k *ℤ l)
-whole_second i j k n f m l divided =
-    let xs = i ∷ j ∷ k ∷ n ∷ f ∷ m ∷ l ∷ [] in
-    let gone = V 3 ⊗ V 0 ⊕ V 2 ⊗ V 1 in
-    ring xs ((V 3 ⊗ (V 0 ⊕ V 1) ⊖ gone) ⊗ V 4 ⊕ gone ⊗ V 6) ((V 3 ⊖ V 2) ⊗ (V 1 ⊗ V 4 ⊕ V 0 ⊗ V 6) ⊕ (V 0 ⊕ V 1) ⊗ (V 2 ⊗ V 6)) tt
-    ∙ ap (λ z. (n -ℤ k) *ℤ z +ℤ (i +ℤ j) *ℤ (k *ℤ l)) (sym divided)
-    ∙ ring xs ((V 3 ⊖ V 2) ⊗ ((V 0 ⊕ V 1) ⊗ V 5) ⊕ (V 0 ⊕ V 1) ⊗ (V 2 ⊗ V 6)) ((V 0 ⊕ V 1) ⊗ ((V 3 ⊖ V 2) ⊗ V 5 ⊕ V 2 ⊗ V 6)) tt
+first_spares : (cone : Cone) (i j : ℤ) (p m q : GridPlace) (w : RationalPoint) → pos 0 ≤ℤ i → pos 0 ≤ℤ j → pos 1 ≤ℤ (i +ℤ j) → IsJoinedAt i j p m q → Spares cone p q w → Spares cone p m w
+first_spares cone i j p m q w least_i least_j long joined spares s reached =
+    let some = s.some in
+    let finish = s.finish in
+    let least = times_pos s.n (i +ℤ j) (omega (arith, ints)) (omega (arith, ints)) in
+    let gone = times_nonneg s.k i s.start least_i in
+    let left = times_nonneg (s.n -ℤ s.k) i (omega (arith, ints)) least_i in
+    let rest = times_nonneg s.n j (omega (arith, ints)) least_j in
+    let sum = ring (s.k ∷ s.n ∷ i ∷ j ∷ []) (V 1 ⊗ (V 2 ⊕ V 3)) (V 0 ⊗ V 2 ⊕ (V 1 ⊖ V 0) ⊗ V 2 ⊕ V 1 ⊗ V 3) tt in
+    let s' : Moment = record { k = s.k *ℤ i; n = s.n *ℤ (i +ℤ j); start = gone; finish = omega (arith, ints); some = omega (arith, ints) } in
+    spares s' (reached_there cone p m p q s s' (i +ℤ j) w (record {
+      some = omega (arith, ints);
+      across = whole_first i j s.k s.n p.at.x m.at.x q.at.x joined.across;
+      up = whole_first i j s.k s.n p.at.y m.at.y q.at.y joined.up;
+      height = whole_first i j s.k s.n p.h m.h q.h joined.height;
+      whole = ring (s.n ∷ i ∷ j ∷ []) (V 0 ⊗ (V 1 ⊕ V 2)) ((V 1 ⊕ V 2) ⊗ V 0) tt;
+    }) reached)
 
-module _ (cone : Cone) (i j : ℤ) (p m q : GridPlace) (w : RationalPoint) (least_i : pos 0 ≤ℤ i) (least_j : pos 0 ≤ℤ j) (long : pos 1 ≤ℤ (i +ℤ j)) (joined : IsJoinedAt i j p m q) (spares : Spares cone p q w) where
-  first_spares : Spares cone p m w
-  first_spares s reached =
-      let some = s.some in
-      let finish = s.finish in
-      let least = times_pos s.n (i +ℤ j) (omega (arith, ints)) (omega (arith, ints)) in
-      let gone = times_nonneg s.k i s.start least_i in
-      let left = times_nonneg (s.n -ℤ s.k) i (omega (arith, ints)) least_i in
-      let rest = times_nonneg s.n j (omega (arith, ints)) least_j in
-      let sum = ring (s.k ∷ s.n ∷ i ∷ j ∷ []) (V 1 ⊗ (V 2 ⊕ V 3)) (V 0 ⊗ V 2 ⊕ (V 1 ⊖ V 0) ⊗ V 2 ⊕ V 1 ⊗ V 3) tt in
-      let s' : Moment = record { k = s.k *ℤ i; n = s.n *ℤ (i +ℤ j); start = gone; finish = omega (arith, ints); some = omega (arith, ints) } in
-      spares s' (reached_there cone p m p q s s' (i +ℤ j) w (record {
-        some = omega (arith, ints);
-        across = whole_first i j s.k s.n p.at.x m.at.x q.at.x joined.across;
-        up = whole_first i j s.k s.n p.at.y m.at.y q.at.y joined.up;
-        height = whole_first i j s.k s.n p.h m.h q.h joined.height;
-        whole = ring (s.n ∷ i ∷ j ∷ []) (V 0 ⊗ (V 1 ⊕ V 2)) ((V 1 ⊕ V 2) ⊗ V 0) tt;
-      }) reached)
-
-  second_spares : Spares cone m q w
-  second_spares s reached =
-      let some = s.some in
-      let finish = s.finish in
-      let least = times_pos s.n (i +ℤ j) (omega (arith, ints)) (omega (arith, ints)) in
-      let before = times_nonneg s.n i (omega (arith, ints)) least_i in
-      let gone = times_nonneg s.k j s.start least_j in
-      let left = times_nonneg (s.n -ℤ s.k) j (omega (arith, ints)) least_j in
-      let sum = ring (s.k ∷ s.n ∷ i ∷ j ∷ []) (V 1 ⊗ (V 2 ⊕ V 3)) (V 1 ⊗ V 2 ⊕ V 0 ⊗ V 3 ⊕ (V 1 ⊖ V 0) ⊗ V 3) tt in
-      let s' : Moment = record { k = s.n *ℤ i +ℤ s.k *ℤ j; n = s.n *ℤ (i +ℤ j); start = omega (arith, ints); finish = omega (arith, ints); some = omega (arith, ints) } in
-      spares s' (reached_there cone m q p q s s' (i +ℤ j) w (record {
-        some = omega (arith, ints);
-        across = whole_second i j s.k s.n p.at.x m.at.x q.at.x joined.across;
-        up = whole_second i j s.k s.n p.at.y m.at.y q.at.y joined.up;
-        height = whole_second i j s.k s.n p.h m.h q.h joined.height;
-        whole = ring (s.n ∷ i ∷ j ∷ []) (V 0 ⊗ (V 1 ⊕ V 2)) ((V 1 ⊕ V 2) ⊗ V 0) tt;
-      }) reached)
+-- the second part is the first of the way back
+second_spares : (cone : Cone) (i j : ℤ) (p m q : GridPlace) (w : RationalPoint) → pos 0 ≤ℤ i → pos 0 ≤ℤ j → pos 1 ≤ℤ (i +ℤ j) → IsJoinedAt i j p m q → Spares cone p q w → Spares cone m q w
+second_spares cone i j p m q w least_i least_j long joined spares =
+    spares_back cone q m w (first_spares cone j i q m p w least_j least_i (omega (arith, ints)) (joined_back i j p m q joined) (spares_back cone p q w spares))
 
 -- ---- a place on the way
 
