@@ -8,7 +8,7 @@ use Rattle.integer_algebra.proofs.Order.{times_negative, times_nonneg, times_of_
 use Rattle.swept_move.specs.Range.{IsFineCoefficient, IsFineProduct, IsFineScaled, IsFineWay}
 use Rattle.integer_algebra.specs.Ranges.{IsUpTo}
 use Rattle.swept_move.specs.Part.{with_half}
-use Rattle.swept_move.proofs.Widths.{IsRead, held, minus, plain, plus, read, times}
+use Rattle.swept_move.proofs.Widths.{IsRead, answer, held, minus, plain, plus, read, times}
 use Rattle.swept_move.proofs.Ways.{read_way}
 
 -- ---- the coefficients
@@ -32,7 +32,7 @@ excess_is on_r on_s = read w64 (minus (read w64 (plain on_r) (lit< tt)) (read w6
 pub coefficient_is : {r d w ways a b : ℤ} (over under : ℤ) → IsFineCoefficient r → r ≡ over *ℤ held w64 d -ℤ under *ℤ held w64 w → IsFineProduct d → d ≡ ways → IsFineProduct w → w ≡ held w64 a *ℤ held w64 b → IsFineWay a → IsFineWay b
     → held w64 r ≡ over *ℤ ways -ℤ under *ℤ (a *ℤ b)
 coefficient_is over under on_r e on_d f on_w g on_a on_b =
-    (read w64 (plain on_r) (lit< tt)).value ∙ e
+    answer w64 on_r e (lit< tt)
     ∙ ap₂ (λ x y. over *ℤ x -ℤ under *ℤ y) (read_product on_d ∙ f) (read_product on_w ∙ g ∙ ap₂ (λ x y. x *ℤ y) (read_way on_a).value (read_way on_b).value)
 
 pub with_half_is : {a half c a' half' c' : ℤ} → a ≡ a' → half ≡ half' → c ≡ c' → with_half a half c ≡ with_half a' half' c'

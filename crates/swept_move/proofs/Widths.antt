@@ -35,6 +35,10 @@ range {m = m} is = subst (IsUpTo (pos m)) (sym is.value) is.within
 pub plain : {m : ℕ} {a : ℤ} → IsUpTo (pos m) a → IsRead m a a
 plain {a = a} within = record { value = refl; within = within }
 
+-- what a call answered, read where it is used
+pub answer : (w : Width) {m : ℕ} {r a : ℤ} → IsUpTo (pos m) r → r ≡ a → m < 2 ^ hbits w → held w r ≡ a
+answer w within e small = (read w (plain within) small).value ∙ e
+
 pub times : {m n : ℕ} {x y a b : ℤ} → IsRead m x a → IsRead n y b → IsRead (m * n) (x *ℤ y) (a *ℤ b)
 times {m = m} {n = n} {a = a} {b = b} p q =
     let a_low = p.within.low in

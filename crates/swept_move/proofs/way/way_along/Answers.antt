@@ -1,25 +1,16 @@
 -- Answers the goals of `way_along`.
 use Rattle.swept_move.proofs.Widths.{range}
-use Rattle.swept_move.proofs.Ways.{taken, tenfold_fine, tenfold_read}
+use Rattle.swept_move.proofs.Ways.{along}
 use Rattle.swept_move.proofs.way.way_along.Goals as goal
 
 pub invariant_of-result : goal.invariant_of-result
-invariant_of-result c =
-    let b = c.x.ensures.range in
-    let a = c.x-2.ensures.range in
-    record {
-      across = range (taken (tenfold_read b.across c.x.ensures.value) (tenfold_read a.across c.x-2.ensures.value) (tenfold_fine b.across) (tenfold_fine a.across));
-      up = range (taken (tenfold_read b.up c.y.ensures.value) (tenfold_read a.up c.y-2.ensures.value) (tenfold_fine b.up) (tenfold_fine a.up));
-    }
+invariant_of-result c = record {
+  across = range (along c.x.ensures.range.across c.x.ensures.value c.x-2.ensures.range.across c.x-2.ensures.value);
+  up = range (along c.y.ensures.range.up c.y.ensures.value c.y-2.ensures.range.up c.y-2.ensures.value);
+}
 
 pub returns-clause-across : goal.returns-clause-across
-returns-clause-across c =
-    let b = c.x.ensures.range in
-    let a = c.x-2.ensures.range in
-    (taken (tenfold_read b.across c.x.ensures.value) (tenfold_read a.across c.x-2.ensures.value) (tenfold_fine b.across) (tenfold_fine a.across)).value
+returns-clause-across c = (along c.x.ensures.range.across c.x.ensures.value c.x-2.ensures.range.across c.x-2.ensures.value).value
 
 pub returns-clause-up : goal.returns-clause-up
-returns-clause-up c =
-    let b = c.x.ensures.range in
-    let a = c.x-2.ensures.range in
-    (taken (tenfold_read b.up c.y.ensures.value) (tenfold_read a.up c.y-2.ensures.value) (tenfold_fine b.up) (tenfold_fine a.up)).value
+returns-clause-up c = (along c.y.ensures.range.up c.y.ensures.value c.y-2.ensures.range.up c.y-2.ensures.value).value

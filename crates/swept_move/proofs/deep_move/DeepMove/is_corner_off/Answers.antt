@@ -1,9 +1,9 @@
 -- Answers the goals of `DeepMove::is_corner_off`.
 use mir.Syntax.{w64}
-use Rattle.std.proofs.Common.{lit<, ◌∙◌}
+use Rattle.std.proofs.Common.{lit<}
 use Rattle.swept_move.specs.Clear.{tenfold}
 use Rattle.swept_move.proofs.Deepest.{first_there, first_value, last_there, last_value, margin_is, tested_there}
-use Rattle.swept_move.proofs.Widths.{plain, read}
+use Rattle.swept_move.proofs.Widths.{answer}
 use Rattle.swept_move.proofs.deep_move.DeepMove.is_corner_off.Goals as goal
 
 pub is_not_negative_in-requires : goal.is_not_negative_in-requires
@@ -13,7 +13,7 @@ is_not_negative_in-requires c =
     let u = tenfold c.args.corner in
     let way = c.way_from-from_corner.ensures in
     let is = margin_is bit c.clearance-clearance.ensures way.across way.up mv.across mv.up
-    ((read w64 (plain c.depth.ensures.range) (lit< tt)).value ∙ c.depth.ensures.value) ((read w64 (plain c.descent.ensures.range) (lit< tt)).value ∙ c.descent.ensures.value) in
+    (answer w64 c.depth.ensures.range c.depth.ensures.value (lit< tt)) (answer w64 c.descent.ensures.range c.descent.ensures.value (lit< tt)) in
     record {
       first = first_there _ _ _ _ mv.moments is (first_value bit mv.from mv.to u c.requires);
       last = last_there _ _ _ _ mv.moments is (last_value bit mv.from mv.to u c.requires);
@@ -24,5 +24,5 @@ returns c =
     let mv = c.args.self.now in
     let way = c.way_from-from_corner.ensures in
     let is = margin_is c.args.bit.now c.clearance-clearance.ensures way.across way.up mv.across mv.up
-    ((read w64 (plain c.depth.ensures.range) (lit< tt)).value ∙ c.depth.ensures.value) ((read w64 (plain c.descent.ensures.range) (lit< tt)).value ∙ c.descent.ensures.value) in
+    (answer w64 c.depth.ensures.range c.depth.ensures.value (lit< tt)) (answer w64 c.descent.ensures.range c.descent.ensures.value (lit< tt)) in
     tested_there _ _ _ _ mv.moments is c.is_not_negative_in.ensures
