@@ -1,11 +1,11 @@
 -- Two segments of one line that go the same way: by the feet of the ends of the second along the first.
-use Rattle.std.proofs.Common.{◌≡◌, ℤ, pos, ◌+ℤ◌, ◌-ℤ◌, ◌*ℤ◌, neg_ℤ, ◌≤ℤ◌, ◌<ℤ◌, inl, inr, [], ◌∷◌, arith, refl, sym, ap, ap₂, ◌∙◌}
+use Rattle.std.proofs.Common.{◌≡◌, ℤ, pos, ◌+ℤ◌, ◌-ℤ◌, ◌*ℤ◌, neg_ℤ, ◌≤ℤ◌, ◌<ℤ◌, ◌⊎◌, inl, inr, [], ◌∷◌, arith, refl, sym, ap₂, ◌∙◌}
 use Rattle.std.proofs.lemmas.Int.{ints, by_lt_z}
 use Rattle.integer_algebra.proofs.Ring.{ring, V, M, ◌⊕◌, ◌⊖◌, ◌⊗◌}
-use Rattle.integer_algebra.proofs.Order.{squares_zero, times_zero, times_nonneg, times_negative, times_lt, times_le, cancel_le, cancel_same}
+use Rattle.integer_algebra.proofs.Order.{squares_zero, times_zero, times_nonneg, times_lt, cancel_le, cancel_same}
 use Rattle.plane_exact.specs.Plane.{GridPoint, RationalPoint, rational}
 use Rattle.plane_exact.specs.Product.{cross_of, dot_of}
-use Rattle.plane_exact.specs.Meet.{IsSame, IsCommon, IsEndOfBoth, HasOne, HasMore}
+use Rattle.plane_exact.specs.Meet.{IsSame, IsCommon, IsEnd, IsEndOfBoth, HasOne, HasMore}
 use Rattle.plane_exact.specs.declared.point.Seg.{Seg}
 use Rattle.plane_exact.proofs.Collinear.{foot}
 use Rattle.plane_exact.proofs.Places.{at, IsAt, between, by_feet, same_place, IsDirection, direction_of, at_end}
@@ -103,62 +103,53 @@ module _ (s t : Seg) (start_level : cross_of s.a s.b t.a ≡ pos 0) (finish_leve
   within : (w : RationalPoint) (on : IsCommon s t w) → IsFrom on.first.at.k on.first.at.n (dot_of s.a s.b s.b) (dot_of s.a s.b t.a) (dot_of s.a s.b t.b)
   within w on = let q = on.second in from_feet on.first.at.k on.first.at.n q.at.k q.at.n _ _ _ q.at.start q.at.finish q.at.some on.first.at.some forward (by_feet s.a s.b t.a t.b w on.first on.second)
 
-  -- what the place of a point of the first is bounded by
-  from_start : (w : RationalPoint) (on : IsCommon s t w) → pos 0 ≤ℤ (on.first.at.k *ℤ dot_of s.a s.b s.b)
-  from_start w on = let some = long in times_nonneg on.first.at.k (dot_of s.a s.b s.b) on.first.at.start (omega (arith, ints))
-
-  to_finish : (w : RationalPoint) (on : IsCommon s t w) → (on.first.at.k *ℤ dot_of s.a s.b s.b) ≤ℤ (on.first.at.n *ℤ dot_of s.a s.b s.b)
-  to_finish w on =
+  -- and from end to end of the first, of which it is a point
+  whole : (w : RationalPoint) (on : IsCommon s t w) → IsFrom on.first.at.k on.first.at.n (dot_of s.a s.b s.b) (pos 0) (dot_of s.a s.b s.b)
+  whole w on =
       let some = long in
-      let finish = on.first.at.finish in
-      let L = dot_of s.a s.b s.b in
-      let p = times_le L on.first.at.k on.first.at.n (omega (arith, ints)) finish in
-      let e = ring (L ∷ on.first.at.k ∷ []) (V 0 ⊗ V 1) (V 1 ⊗ V 0) tt in
-      let f = ring (L ∷ on.first.at.n ∷ []) (V 0 ⊗ V 1) (V 1 ⊗ V 0) tt in
-      omega (arith, ints)
+      let start = times_nonneg on.first.at.k (dot_of s.a s.b s.b) on.first.at.start (omega (arith, ints)) in
+      let finish = times_nonneg (on.first.at.n -ℤ on.first.at.k) (dot_of s.a s.b s.b) (let most = on.first.at.finish in omega (arith, ints)) (omega (arith, ints)) in
+      let split = ring (dot_of s.a s.b s.b ∷ on.first.at.k ∷ on.first.at.n ∷ []) ((V 2 ⊖ V 1) ⊗ V 0) (V 2 ⊗ V 0 ⊖ V 1 ⊗ V 0) tt in
+      let none = times_zero on.first.at.n in
+      record { low = omega (arith, ints); high = omega (arith, ints) }
 
   pub none_before : dot_of s.a s.b t.b <ℤ pos 0 → (w : RationalPoint) → ¬ IsCommon s t w
   none_before h w on =
       let some = on.first.at.some in
       let high = (within w on).high in
-      let p = from_start w on in
-      let q = times_negative on.first.at.n (dot_of s.a s.b t.b) (omega (arith, ints)) h in
+      let low = (whole w on).low in
+      let q = times_lt on.first.at.n (dot_of s.a s.b t.b) (pos 0) (omega (arith, ints)) h in
       omega (arith, ints)
 
   pub none_after : dot_of s.a s.b s.b <ℤ dot_of s.a s.b t.a → (w : RationalPoint) → ¬ IsCommon s t w
   none_after h w on =
       let some = on.first.at.some in
       let low = (within w on).low in
-      let p = to_finish w on in
+      let high = (whole w on).high in
       let q = times_lt on.first.at.n (dot_of s.a s.b s.b) (dot_of s.a s.b t.a) (omega (arith, ints)) h in
       omega (arith, ints)
 
-  -- each common point is at this one place
-  one_at : (k : ℤ) → IsAlong k → ((v : RationalPoint) (on : IsCommon s t v) → on.first.at.k *ℤ dot_of s.a s.b s.b ≡ on.first.at.n *ℤ k)
-      → IsEndOfBoth s t (place k) → HasOne s t (IsEndOfBoth s t)
-  one_at k along here ends = record { point = place k; common = common k along; only = (λ v on. same_place s.a s.b v on.first _ _ long (here v on)); these = ends }
+  -- each common point is at this one end of the first, which is an end of the second
+  one_at : (k : ℤ) → IsAlong k → ((v : RationalPoint) (on : IsCommon s t v) → IsFrom on.first.at.k on.first.at.n (dot_of s.a s.b s.b) k k)
+      → (k ≡ pos 0) ⊎ (k ≡ dot_of s.a s.b s.b) → IsEnd t (place k) → HasOne s t (IsEndOfBoth s t)
+  one_at k along here first second = record {
+    point = place k;
+    common = common k along;
+    only = (λ v on. same_place s.a s.b v on.first k _ long (let low = (here v on).low in let high = (here v on).high in omega (arith, ints)));
+    these = (at_end s.a s.b k (place k) (on_first k) first, second);
+  }
 
   pub one_at_start : dot_of s.a s.b t.b ≡ pos 0 → HasOne s t (IsEndOfBoth s t)
   one_at_start h =
       let some = long in
       one_at (dot_of s.a s.b t.b) (record { start = omega (arith, ints); finish = omega (arith, ints); after = omega (arith, ints); before = omega (arith, ints) })
-      (λ v on.
-      let high = (within v on).high in
-      let p = from_start v on in
-      let e = ap (λ z. on.first.at.n *ℤ z) h in
-      omega (arith, ints))
-      (at_end s.a s.b _ (place (dot_of s.a s.b t.b)) (on_first (dot_of s.a s.b t.b)) (inl h), inr (end_place t.b finish_level))
+      (λ v on. record { low = rw h (whole v on).low; high = (within v on).high }) (inl h) (inr (end_place t.b finish_level))
 
   pub one_at_finish : dot_of s.a s.b t.a ≡ dot_of s.a s.b s.b → HasOne s t (IsEndOfBoth s t)
   one_at_finish h =
       let some = long in
       one_at (dot_of s.a s.b t.a) (record { start = omega (arith, ints); finish = omega (arith, ints); after = omega (arith, ints); before = omega (arith, ints) })
-      (λ v on.
-      let low = (within v on).low in
-      let p = to_finish v on in
-      let e = ap (λ z. on.first.at.n *ℤ z) h in
-      omega (arith, ints))
-      (at_end s.a s.b _ (place (dot_of s.a s.b t.a)) (on_first (dot_of s.a s.b t.a)) (inr h), inl (end_place t.a start_level))
+      (λ v on. record { low = (within v on).low; high = rw h (whole v on).high }) (inr h) (inl (end_place t.a start_level))
 
   way : IsDirection (s.b.x -ℤ s.a.x) (s.b.y -ℤ s.a.y)
   way = direction_of (s.b.x -ℤ s.a.x) (s.b.y -ℤ s.a.y) (neg_ℤ (s.b.y -ℤ s.a.y)) (s.b.x -ℤ s.a.x) (λ e.

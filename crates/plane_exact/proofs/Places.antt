@@ -1,5 +1,5 @@
 -- Rational points by their places along segments: what a point of two segments has, which points are the same, and which are ends.
-use Rattle.std.proofs.Common.{◌≡◌, ℤ, pos, ◌+ℤ◌, ◌-ℤ◌, ◌*ℤ◌, ◌≤ℤ◌, ◌<ℤ◌, ◌⊎◌, inl, inr, [], ◌∷◌, arith, sym, ap, ap₂, ◌∙◌}
+use Rattle.std.proofs.Common.{◌≡◌, ℤ, pos, ◌+ℤ◌, ◌-ℤ◌, ◌*ℤ◌, ◌≤ℤ◌, ◌<ℤ◌, ◌⊎◌, inl, inr, List, [], ◌∷◌, arith, sym, ap, ap₂, ◌∙◌}
 use Rattle.std.proofs.lemmas.Int.{ints}
 use Rattle.integer_algebra.proofs.Ring.{ring, V, K, ◌⊕◌, ◌⊖◌, ◌⊗◌}
 use Rattle.integer_algebra.proofs.Order.{cancel_same, zero_product}
@@ -38,15 +38,14 @@ module _ (a b c g : GridPoint) (w : RationalPoint) (p : IsBetween a b w) (q : Is
   agreed_up : q.at.n *ℤ (p.at.n *ℤ a.y +ℤ p.at.k *ℤ (b.y -ℤ a.y)) ≡ p.at.n *ℤ (q.at.n *ℤ c.y +ℤ q.at.k *ℤ (g.y -ℤ c.y))
   agreed_up = let positive = w.positive in agreed p.at.n q.at.n w.over _ _ w.y (omega (arith, ints)) p.up q.up
 
+  -- what both places are made of
+  abbrev numbers : List ℤ
+  numbers = a.x ∷ a.y ∷ b.x ∷ b.y ∷ c.x ∷ c.y ∷ g.x ∷ g.y ∷ p.at.k ∷ p.at.n ∷ q.at.k ∷ q.at.n ∷ []
+
   -- the place along the first by the heights of its ends over the second
   pub by_heights : p.at.k *ℤ (cross_of c g a -ℤ cross_of c g b) ≡ p.at.n *ℤ cross_of c g a
   by_heights =
-      let k = p.at.k in
-      let n = p.at.n in
-      let l = q.at.k in
-      let m = q.at.n in
       let some = q.at.some in
-      let xs = a.x ∷ a.y ∷ b.x ∷ b.y ∷ c.x ∷ c.y ∷ g.x ∷ g.y ∷ k ∷ n ∷ l ∷ m ∷ [] in
       let ex = V 6 ⊖ V 4 in
       let ey = V 7 ⊖ V 5 in
       let s = ex ⊗ (V 1 ⊖ V 5) ⊖ ey ⊗ (V 0 ⊖ V 4) in
@@ -54,17 +53,12 @@ module _ (a b c g : GridPoint) (w : RationalPoint) (p : IsBetween a b w) (q : Is
       let left = ex ⊗ (V 11 ⊗ (V 9 ⊗ V 1 ⊕ V 8 ⊗ (V 3 ⊖ V 1))) ⊖ ey ⊗ (V 11 ⊗ (V 9 ⊗ V 0 ⊕ V 8 ⊗ (V 2 ⊖ V 0))) in
       let right = ex ⊗ (V 9 ⊗ (V 11 ⊗ V 5 ⊕ V 10 ⊗ ey)) ⊖ ey ⊗ (V 9 ⊗ (V 11 ⊗ V 4 ⊕ V 10 ⊗ ex)) in
       let same = ap₂ (λ x y. (g.x -ℤ c.x) *ℤ y -ℤ (g.y -ℤ c.y) *ℤ x) agreed_across agreed_up in
-      let split = ring xs (V 11 ⊗ (V 9 ⊗ s)) (V 11 ⊗ (V 8 ⊗ (s ⊖ f)) ⊕ (left ⊖ right)) tt in
-      cancel_same m (k *ℤ (cross_of c g a -ℤ cross_of c g b)) (n *ℤ cross_of c g a) (omega (arith, ints)) (omega (arith, ints))
+      let split = ring numbers (V 11 ⊗ (V 9 ⊗ s)) (V 11 ⊗ (V 8 ⊗ (s ⊖ f)) ⊕ (left ⊖ right)) tt in
+      cancel_same q.at.n (p.at.k *ℤ (cross_of c g a -ℤ cross_of c g b)) (p.at.n *ℤ cross_of c g a) (omega (arith, ints)) (omega (arith, ints))
 
   -- the place along the first by the feet of the ends of the second
   pub by_feet : q.at.n *ℤ (p.at.k *ℤ dot_of a b b) ≡ p.at.n *ℤ (q.at.n *ℤ dot_of a b c +ℤ q.at.k *ℤ (dot_of a b g -ℤ dot_of a b c))
   by_feet =
-      let k = p.at.k in
-      let n = p.at.n in
-      let l = q.at.k in
-      let m = q.at.n in
-      let xs = a.x ∷ a.y ∷ b.x ∷ b.y ∷ c.x ∷ c.y ∷ g.x ∷ g.y ∷ k ∷ n ∷ l ∷ m ∷ [] in
       let dx = V 2 ⊖ V 0 in
       let dy = V 3 ⊖ V 1 in
       let ta = dx ⊗ (V 4 ⊖ V 0) ⊕ dy ⊗ (V 5 ⊖ V 1) in
@@ -72,7 +66,7 @@ module _ (a b c g : GridPoint) (w : RationalPoint) (p : IsBetween a b w) (q : Is
       let left = dx ⊗ (V 11 ⊗ (V 9 ⊗ V 0 ⊕ V 8 ⊗ dx)) ⊕ dy ⊗ (V 11 ⊗ (V 9 ⊗ V 1 ⊕ V 8 ⊗ dy)) in
       let right = dx ⊗ (V 9 ⊗ (V 11 ⊗ V 4 ⊕ V 10 ⊗ (V 6 ⊖ V 4))) ⊕ dy ⊗ (V 9 ⊗ (V 11 ⊗ V 5 ⊕ V 10 ⊗ (V 7 ⊖ V 5))) in
       let same = ap₂ (λ x y. (b.x -ℤ a.x) *ℤ x +ℤ (b.y -ℤ a.y) *ℤ y) agreed_across agreed_up in
-      let split = ring xs (V 11 ⊗ (V 8 ⊗ (dx ⊗ dx ⊕ dy ⊗ dy))) (V 9 ⊗ (V 11 ⊗ ta ⊕ V 10 ⊗ (tb ⊖ ta)) ⊕ (left ⊖ right)) tt in
+      let split = ring numbers (V 11 ⊗ (V 8 ⊗ (dx ⊗ dx ⊕ dy ⊗ dy))) (V 9 ⊗ (V 11 ⊗ ta ⊕ V 10 ⊗ (tb ⊖ ta)) ⊕ (left ⊖ right)) tt in
       omega (arith, ints)
 
 -- ---- the same point

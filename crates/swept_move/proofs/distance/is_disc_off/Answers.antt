@@ -2,7 +2,6 @@
 use mir.Syntax.{w64}
 use Rattle.std.proofs.Common.{◌-ℤ◌, arith, lit<}
 use Rattle.std.proofs.lemmas.Int.{ints}
-use Rattle.plane_exact.specs.Moves.{depth_of}
 use Rattle.swept_move.specs.Clear.{tenfold_edge}
 use Rattle.swept_move.proofs.Distances.{clear_by_a, clear_by_b, clear_by_line, line_is, long_is}
 use Rattle.swept_move.proofs.Ways.{dot_answer}
