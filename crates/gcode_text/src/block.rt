@@ -3,80 +3,43 @@ ghost use Rattle.std.specs.Prelude.{◌≡◌, ◌↔◌, IsSome, IfSome};
 
 use std::marker::Model;
 
-/// A coordinate of the bit's tip in tenths of a grid unit, from -327,680 to 327,670.
+/// A number of tenths of a grid unit, from `-BELOW` to 327,670.
 #[derive(Clone, Copy)]
-pub struct Coordinate {
+pub struct Tenths<const BELOW: u32> {
     tenths: i32,
 }
 
-impl Model for Coordinate {
-    ghost use Rattle.std.specs.Prelude.{ℤ};
-    ghost use Rattle.plane_exact.specs.Heights.{IsFineCoordinate};
-
-    ghost Value = { ℤ };
-
-    ghost view = { λ z. z.tenths };
-
-    ghost invariant = { λ z. IsFineCoordinate z.tenths };
-
-    ghost inverse = { λ z. record { tenths = z } };
-}
-
-impl Coordinate {
-    ghost use Rattle.plane_exact.specs.Heights.{IsFineCoordinate};
-
-    /// The coordinate of so many tenths, or None where that is out of range.
-    pub fn new(tenths: i128) -> Option<Coordinate>
-        ensures range { IsSome result ↔ IsFineCoordinate tenths }
-        ensures value { IfSome result (λ z. z ≡ tenths) }
-    {
-        if -327_680 <= tenths && tenths <= 327_670 {
-            Some(Coordinate {
-                tenths: tenths as i32,
-            })
-        } else {
-            None
-        }
-    }
-
-    /// The coordinate in tenths of a grid unit.
-    pub fn tenths(self) -> i32
-        ensures value { result ≡ self }
-        ensures range { IsFineCoordinate self }
-    {
-        self.tenths
-    }
-}
+/// A coordinate of the bit's tip in tenths of a grid unit, from -327,680 to 327,670.
+pub type Coordinate = Tenths<327_680>;
 
 /// A height of the bit's tip in tenths of a grid unit, from -327,670 to 327,670.
-#[derive(Clone, Copy)]
-pub struct Height {
-    tenths: i32,
-}
+pub type Height = Tenths<327_670>;
 
-impl Model for Height {
-    ghost use Rattle.std.specs.Prelude.{ℤ};
-    ghost use Rattle.plane_exact.specs.Heights.{IsHeight};
+impl<const BELOW: u32> Model for Tenths<BELOW> {
+    ghost use Rattle.std.specs.Prelude.{ℤ, pos, neg_ℤ};
+    ghost use Rattle.integer_algebra.specs.Ranges.{IsWithin};
 
     ghost Value = { ℤ };
 
     ghost view = { λ z. z.tenths };
 
-    ghost invariant = { λ z. IsHeight z.tenths };
+    ghost invariant = { λ z. IsWithin (neg_ℤ (pos BELOW)) (pos 327670) z.tenths };
 
     ghost inverse = { λ z. record { tenths = z } };
 }
 
-impl Height {
-    ghost use Rattle.plane_exact.specs.Heights.{IsHeight};
+impl<const BELOW: u32> Tenths<BELOW> {
+    ghost use Rattle.std.specs.Prelude.{◌≤◌, pos, neg_ℤ};
+    ghost use Rattle.integer_algebra.specs.Ranges.{IsWithin};
 
-    /// The height of so many tenths, or None where that is out of range.
-    pub fn new(tenths: i128) -> Option<Height>
-        ensures range { IsSome result ↔ IsHeight tenths }
+    /// The number of so many tenths, or None where that is out of range.
+    pub fn new(tenths: i128) -> Option<Self>
+        requires { BELOW ≤ 327680 }
+        ensures range { IsSome result ↔ IsWithin (neg_ℤ (pos BELOW)) (pos 327670) tenths }
         ensures value { IfSome result (λ z. z ≡ tenths) }
     {
-        if -327_670 <= tenths && tenths <= 327_670 {
-            Some(Height {
+        if -(BELOW as i128) <= tenths && tenths <= 327_670 {
+            Some(Tenths {
                 tenths: tenths as i32,
             })
         } else {
@@ -84,10 +47,10 @@ impl Height {
         }
     }
 
-    /// The height in tenths of a grid unit.
+    /// The number of tenths.
     pub fn tenths(self) -> i32
-        ensures value { result ≡ self }
-        ensures range { IsHeight self }
+        ensures value { result ≡ self.entry }
+        ensures range { IsWithin (neg_ℤ (pos BELOW)) (pos 327670) self.entry }
     {
         self.tenths
     }
