@@ -1,9 +1,10 @@
 // Judges the words of a line in turn, from the left.
-ghost use Rattle.std.specs.Prelude.{◌≡◌, true, false, MatchResult};
-ghost use Rattle.gcode_text.specs.Grammar.{coordinate, empty_block, height, is_one_of, judge_g, judge_m, judge_other, judge_unused, judge_word, judge_words, line_words, tenths_of};
+ghost use Rattle.std.specs.Prelude.{◌≡◌, ◌≤◌, pos, neg_ℤ, true, false, MatchResult};
+ghost use Rattle.grid_num.specs.Judging.{and_then};
+ghost use Rattle.gcode_text.specs.Grammar.{empty_block, in_range, is_one_of, judge_g, judge_m, judge_other, judge_unused, judge_word, judge_words, line_words, tenths_of};
 ghost use Rattle.gcode_text.specs.Words.{word_of};
 
-use crate::block::{Block, Coordinate, Height};
+use crate::block::{Block, Tenths};
 use crate::fault::CodeKind;
 use crate::words::{Word, first_word};
 use grid_num::{Decimal, Units};
@@ -95,17 +96,17 @@ fn judged_other(units: Units, block: Block, letter: u8, number: &Decimal) -> Res
     match letter {
         b'X' => {
             once(block.x.is_some())?;
-            let x = Some(read_coordinate(units, number)?);
+            let x = Some(read_ranged(units, number)?);
             Ok(Block { x, ..block })
         }
         b'Y' => {
             once(block.y.is_some())?;
-            let y = Some(read_coordinate(units, number)?);
+            let y = Some(read_ranged(units, number)?);
             Ok(Block { y, ..block })
         }
         b'Z' => {
             once(block.z.is_some())?;
-            let z = Some(read_height(units, number)?);
+            let z = Some(read_ranged(units, number)?);
             Ok(Block { z, ..block })
         }
         _ => judged_unused(block, letter),
@@ -150,18 +151,13 @@ fn is_any(number: &Decimal, tenths: &[u32]) -> bool
     tenths.iter().any(|tenth| number.is_tenths(*tenth))
 }
 
-fn read_coordinate(units: Units, number: &Decimal) -> Result<Coordinate, CodeKind>
-    ensures { result ≡ coordinate units number.now }
+// The number as a coordinate or a height: the type that is asked for has its range.
+fn read_ranged<const BELOW: u32>(units: Units, number: &Decimal) -> Result<Tenths<BELOW>, CodeKind>
+    requires { BELOW ≤ 327680 }
+    ensures { result ≡ and_then (tenths_of units number.now) (in_range (neg_ℤ (pos BELOW)) (pos 327670)) }
 {
     let tenths = read_tenths(units, number)?;
-    Coordinate::new(tenths).ok_or(CodeKind::OutOfRange)
-}
-
-fn read_height(units: Units, number: &Decimal) -> Result<Height, CodeKind>
-    ensures { result ≡ height units number.now }
-{
-    let tenths = read_tenths(units, number)?;
-    Height::new(tenths).ok_or(CodeKind::OutOfRange)
+    Tenths::new(tenths).ok_or(CodeKind::OutOfRange)
 }
 
 // The number in tenths of a grid unit.
