@@ -1,6 +1,5 @@
 // A line of a program: its block, from what stands outside its comments and blanks, in capitals.
 ghost use Rattle.std.specs.Prelude.{◌≡◌, ◌≤◌, false, Some, None, if◌then◌else◌, length};
-ghost use Rattle.text_lines.specs.Pieces.{is_blank};
 ghost use Rattle.gcode_text.specs.Grammar.{capital, outside_comments};
 ghost use Rattle.gcode_text.specs.Moves.{line_block};
 
@@ -9,6 +8,7 @@ use crate::fault::CodeKind;
 use crate::judge::judge;
 use arrayvec::ArrayVec;
 use grid_num::Units;
+use text_lines::Separator;
 
 /// The most bytes of a line, without what ends it.
 pub const MOST_LINE_BYTES: usize = 1024;
@@ -48,7 +48,7 @@ fn take_outside(line: &[u8], outside: &mut ArrayVec<u8, MOST_LINE_BYTES>) -> boo
             in_comment = true;
         } else if *byte == b';' {
             return true;
-        } else if !is_blank(*byte) {
+        } else if !Separator::Blank.separates(*byte) {
             outside.push(as_capital(*byte));
         }
     }
@@ -64,11 +64,4 @@ fn as_capital(byte: u8) -> u8
     } else {
         byte
     }
-}
-
-// Whether the byte is a space or a tab.
-fn is_blank(byte: u8) -> bool
-    ensures { result ≡ is_blank byte }
-{
-    byte == b' ' || byte == b'\t'
 }

@@ -1,7 +1,6 @@
 // The state of a program that is read a byte at a time, and what a byte does with it.
 ghost use Rattle.std.specs.Prelude.{◌≡◌, ◌+◌, ◌<◌, ◌^◌};
 ghost use Rattle.grid_num.specs.Judging.{and_then};
-ghost use Rattle.text_lines.specs.Pieces.{without_return};
 ghost use Rattle.gcode_text.specs.Moves.{in_line, judge_move};
 ghost use Rattle.gcode_text.specs.Stepping.{behind_block, behind_line, block_of, ended_line, last_move, move_of_line, next, start_of, turn_by, turn_of, with_byte};
 
@@ -12,6 +11,7 @@ use crate::modal::{Position, judge_move};
 use arrayvec::ArrayVec;
 use grid_num::Units;
 use plane_exact::LineMove;
+use text_lines::without_return;
 
 /// What a byte of a program reports.
 #[derive(Clone, Copy, Debug, PartialEq, Eq)]
@@ -196,17 +196,4 @@ impl State {
         }
         line_block(self.units, without_return(self.bytes.as_slice()))
     }
-}
-
-// Without a carriage return at the very end.
-fn without_return(line: &[u8]) -> &[u8]
-    ensures { result.now ≡ without_return line.now }
-{
-    let Some((last, before)) = line.split_last() else {
-        return line;
-    };
-    if *last != b'\r' {
-        return line;
-    }
-    before
 }

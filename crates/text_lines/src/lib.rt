@@ -8,4 +8,4 @@ mod lines;
 mod pieces;
 
 pub use lines::{Lines, Words};
-pub use pieces::{Piece, Pieces, Separator};
+pub use pieces::{Piece, Pieces, Separator, without_return};

@@ -1,5 +1,6 @@
 // Cuts a text at its separators into pieces, each with its place. No byte is looked at more than a few times.
-ghost use Rattle.std.specs.Prelude.{◌≡◌, ◌+◌, ◌<◌, ◌^◌, ◌∷◌, IfSome, length};
+ghost use Rattle.std.specs.Prelude.{◌≡◌, ◌+◌, ◌<◌, ◌^◌, ◌∷◌, IfSome, ◌≤◌, length};
+ghost use Rattle.text_lines.specs.Pieces.{without_return};
 
 use std::marker::Model;
 
@@ -69,17 +70,22 @@ impl<'a> Piece<'a> {
     pub(crate) fn trimmed(self) -> Piece<'a>
         ensures { piece_of result ≡ trimmed (piece_of self.entry) }
     {
-        let Some((last, line)) = self.bytes.split_last() else {
-            return self;
-        };
-        if *last != b'\r' {
-            return self;
-        }
         Piece {
             at: self.at,
-            bytes: line,
+            bytes: without_return(self.bytes),
         }
     }
+}
+
+/// A line without the carriage return that may stand at its very end.
+pub fn without_return(line: &[u8]) -> &[u8]
+    ensures value { result.now ≡ without_return line.now }
+    ensures within { length result.now ≤ length line.now }
+{
+    let Some((last, before)) = line.split_last() else {
+        return line;
+    };
+    if *last == b'\r' { before } else { line }
 }
 
 /// Gives the pieces of a text between its separators, the first and the last among them, in order.
