@@ -15,6 +15,7 @@ use engrave_core::{engrave, status};
 use shop_port::{MemDepot, MemSink};
 use std::alloc::Global;
 use std::collections::BTreeMap;
+use std::process::Abort;
 use std::test::Fail;
 
 /// A square plate of 10 mm.
@@ -67,6 +68,19 @@ fn run(
 
 /// No call has this number.
 const NEVER: u64 = 0;
+
+/// Expects that a run of the words, where no call fails, has this status and writes this text.
+fn expect(
+    rt: &impl Abort,
+    alloc: Global,
+    words: &str,
+    files: (&str, &str),
+    want: (u8, &str),
+) -> Result<(), Fail> {
+    let (status, text) = run(alloc, words, files, 65_536, (NEVER, NEVER))?;
+    assert_eq!(rt; (status, text.as_str()), want, "{words} of {files:?}");
+    Ok(())
+}
 
 /// A plate in the shape of an L.
 const ANGLE: &str = "0,0 400,0 400,200 200,200 200,400 0,400";

@@ -1,7 +1,7 @@
 // `check`: the verdict on a G-code program, over a drawing.
 ghost use Rattle.std.specs.Prelude.{◌≤◌};
 
-use super::{ANGLE, DOWN, LENIENT, NEVER, SQUARE, run};
+use super::{ANGLE, DOWN, LENIENT, NEVER, SQUARE, expect, run};
 use std::test::Fail;
 
 /// A square of four grid units.
@@ -84,18 +84,7 @@ fn check_names_the_first_move_that_gouges(rt: HostRuntime) -> Result<(), Fail> {
         (ANGLE, "G2 X1", 200, "input code line 1 word\n", 3),
     ] {
         let words = format!(in rt.alloc(); "check --drawing=d --code=c --bit=1/1 --rmax={rmax}")?;
-        let (status, text) = run(
-            rt.alloc(),
-            words.as_str(),
-            (drawing, code),
-            65_536,
-            (NEVER, NEVER),
-        )?;
-        assert_eq!(rt;
-            (status, text.as_str()),
-            (want, line),
-            "{code} over {drawing}"
-        );
+        expect(&rt, rt.alloc(), words.as_str(), (drawing, code), (want, line))?;
     }
     Ok(())
 }
@@ -156,12 +145,7 @@ fn a_slope_is_judged_by_its_part_below_the_surface(rt: HostRuntime) -> Result<()
         ),
     ] {
         let words = "check --drawing=d --code=c --bit=1/1 --rmax=600";
-        let (status, text) = run(rt.alloc(), words, (drawing, code), 65_536, (NEVER, NEVER))?;
-        assert_eq!(rt;
-            (status, text.as_str()),
-            (want, line),
-            "{code} over {drawing}"
-        );
+        expect(&rt, rt.alloc(), words, (drawing, code), (want, line))?;
     }
     Ok(())
 }
@@ -200,14 +184,7 @@ fn moves_are_judged_at_the_ends_of_the_ranges(rt: HostRuntime) -> Result<(), Fai
         ),
     ] {
         let words = format!(in rt.alloc(); "check --drawing=d --code=c --bit={bit} --rmax=8191")?;
-        let (status, text) = run(
-            rt.alloc(),
-            words.as_str(),
-            (LARGEST, code),
-            65_536,
-            (NEVER, NEVER),
-        )?;
-        assert_eq!(rt; (status, text.as_str()), (want, line), "{bit} {code}");
+        expect(&rt, rt.alloc(), words.as_str(), (LARGEST, code), (want, line))?;
     }
     Ok(())
 }

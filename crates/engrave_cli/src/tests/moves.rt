@@ -1,6 +1,6 @@
 // `moves`: the list of the moves of a G-code program, or its fault.
 
-use super::{DOWN, NEVER, run};
+use super::{DOWN, expect};
 use std::test::Fail;
 
 #[test]
@@ -32,14 +32,7 @@ fn moves_are_listed_and_faults_named(rt: HostRuntime) -> Result<(), Fail> {
         ("X1.", "moves 0\n", 0),
         ("", "moves 0\n", 0),
     ] {
-        let (status, listed) = run(
-            rt.alloc(),
-            "moves --code=c",
-            ("", code),
-            65_536,
-            (NEVER, NEVER),
-        )?;
-        assert_eq!(rt; (status, listed.as_str()), (want, text), "{code}");
+        expect(&rt, rt.alloc(), "moves --code=c", ("", code), (want, text))?;
     }
     Ok(())
 }

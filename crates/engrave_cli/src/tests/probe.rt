@@ -1,6 +1,6 @@
 // `probe`: worked examples, and the same depths by the plain program of the definition.
 
-use super::{FIRST, NEVER, SQUARE, run};
+use super::{FIRST, SQUARE, expect};
 use depth_rule::greatest_depth_by_steps;
 use loops_text::read_loops;
 use plane_exact::{Bit, MOST_DEPTH, Point};
@@ -100,12 +100,7 @@ fn worked_probes_give_their_text_and_status(rt: HostRuntime) -> Result<(), Fail>
             0,
         ),
     ] {
-        let (status, text) = run(rt.alloc(), words, (drawing, ""), 65_536, (NEVER, NEVER))?;
-        assert_eq!(rt;
-            (status, text.as_str()),
-            (want, line),
-            "{words} of {drawing}"
-        );
+        expect(&rt, rt.alloc(), words, (drawing, ""), (want, line))?;
     }
     Ok(())
 }

@@ -1,6 +1,6 @@
 // Refusals: each by its line and status, and in their order.
 
-use super::{FIRST, NEVER, run};
+use super::{FIRST, expect};
 use std::test::Fail;
 
 #[test]
@@ -70,12 +70,7 @@ fn refusals_are_reported_by_their_line_and_status(rt: HostRuntime) -> Result<(),
             2,
         ),
     ] {
-        let (status, text) = run(rt.alloc(), words, (drawing, ""), 65_536, (NEVER, NEVER))?;
-        assert_eq!(rt;
-            (status, text.as_str()),
-            (want, line),
-            "{words} of {drawing}"
-        );
+        expect(&rt, rt.alloc(), words, (drawing, ""), (want, line))?;
     }
     Ok(())
 }
