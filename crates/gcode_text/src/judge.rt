@@ -10,6 +10,9 @@ use crate::words::{Word, first_word};
 use grid_num::{Decimal, Units};
 
 /// The block of a text without comments and blanks, or the first fault among its words.
+// If you change this: each function here equals one definition of `specs/Grammar.antt`, with the order of the faults of a word: its
+// letter, the form of its number, a second use of the letter, a number off the grid, one out of range. Change the definition first. None
+// needs an answer by hand, so what differs from it is reported at the function of the word.
 pub fn judge(units: Units, text: &[u8]) -> Result<Block, CodeKind>
     ensures { result ≡ judge_words units empty_block (line_words text.now) }
 {

@@ -141,6 +141,7 @@ impl Collected {
     {
         match self.stepper.byte(byte) {
             Turn::Moved(mv) => self.moves.push(mv)?,
+            // The stepper keeps the fault, and its end gives it.
             Turn::Nothing | Turn::Failed(_) => {}
         }
         Ok(())

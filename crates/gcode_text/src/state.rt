@@ -166,7 +166,7 @@ impl State {
         }
     }
 
-    // The block of the line that ends here and its move, or its fault.
+    // The block of the line that ends here and its move, which not every line has, or its fault.
     fn ended_line(&self) -> Result<(Block, Option<LineMove>), CodeFault>
         ensures { result ≡ ended_line self.now }
     {
@@ -179,6 +179,7 @@ impl State {
         }
     }
 
+    // Apart from `ended_line`, so that `?` serves for both faults before they get the number of the line.
     fn judged_line(&self) -> Result<(Block, Option<LineMove>), CodeKind>
         ensures { result ≡ and_then (block_of self.now.units self.now.is_long self.now.bytes.items) (λ block. and_then (judge_move self.now.line self.now.moves self.now.position block) (λ mv. Ok (block, mv))) }
     {

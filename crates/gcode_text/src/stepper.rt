@@ -11,6 +11,10 @@ use std::marker::Model;
 
 /// Reads a program a byte at a time, and reports each move with the byte that closes its line. It takes no memory: it
 /// stores one line, the coordinates and some counts.
+// If you change this: what a byte does stands in `state.rt`, by `turn_of` and `next` of `specs/Stepping.antt`. The clauses `moves` and
+// `fault` tie each answer to `moves_of` of all bytes fed, a definition by lines that knows no state: `proofs/Stepped.antt` shows that
+// both come to the same, and breaks with a field of the state that isn't renewed behind a line; `proofs/Reported.antt` shows that a
+// reported move is the last one.
 #[derive(Drop)]
 pub struct Stepper {
     state: State,

@@ -10,6 +10,9 @@ ghost use Rattle.swept_move.specs.Part.{with_half};
 use crate::moments::Moments;
 
 // a s^2 + 2 half s + c at the moment s.
+// If you change this: a coefficient may be 6.9e18, and a signed 64-bit word holds 9.2e18, so coordinates or slopes with a sixth more
+// range no longer fit. The ranges stand in `specs/Range.antt`; the proofs that read the formulas step by step in their
+// widths break first, for the coefficients in `proofs/Products.antt` and for the tests here in `proofs/Clearances.antt`.
 #[derive(Clone, Copy)]
 pub struct Clearance {
     pub a: i64,
@@ -20,7 +23,7 @@ pub struct Clearance {
     ghost c_range: { IsFineCoefficient c },
 }
 
-// The product of two numbers, neither above the greatest coefficient, which 64 bits needn't hold.
+// The product of two numbers, neither above the greatest coefficient. Two coefficients of 63 bits make 126, so it is taken in 128.
 pub fn product(a: i64, b: i64) -> i128
     requires a { IsFineCoefficient a }
     requires b { IsFineCoefficient b }
@@ -65,7 +68,7 @@ impl Clearance {
         }
     }
 
-    // Its value at the move's finish, which 64 bits needn't hold.
+    // Its value at the move's finish: four coefficients at most, so it is taken in 128 bits.
     fn at_finish(self) -> i128
         ensures { result ≡ self.a +ℤ pos 2 *ℤ self.half +ℤ self.c }
     {

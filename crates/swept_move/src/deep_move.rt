@@ -40,6 +40,9 @@ impl DeepMove {
     }
 
     // Whether it passes the tests against the edge, those that take the least work first.
+    // If you change this: the tests may change places, but together they are `PassesBetween` of `specs/Motion.antt`, of which the laws
+    // of `law.rt` say that it is neither more nor less than that no moment of the move removes a point of the edge. A test left out or
+    // loosened breaks the proof here; one that is to mean something else changes that definition, and breaks the laws.
     pub fn passes(&self, bit: &Bit, edge: &Seg) -> bool
         requires { IsDeepBetween self.now.from self.now.to }
         ensures { IsTrue result ↔ PassesBetween bit.now self.now.from self.now.to (tenfold_edge edge.now) }

@@ -84,7 +84,13 @@ fn check_names_the_first_move_that_gouges(rt: HostRuntime) -> Result<(), Fail> {
         (ANGLE, "G2 X1", 200, "input code line 1 word\n", 3),
     ] {
         let words = format!(in rt.alloc(); "check --drawing=d --code=c --bit=1/1 --rmax={rmax}")?;
-        expect(&rt, rt.alloc(), words.as_str(), (drawing, code), (want, line))?;
+        expect(
+            &rt,
+            rt.alloc(),
+            words.as_str(),
+            (drawing, code),
+            (want, line),
+        )?;
     }
     Ok(())
 }
@@ -184,7 +190,13 @@ fn moves_are_judged_at_the_ends_of_the_ranges(rt: HostRuntime) -> Result<(), Fai
         ),
     ] {
         let words = format!(in rt.alloc(); "check --drawing=d --code=c --bit={bit} --rmax=8191")?;
-        expect(&rt, rt.alloc(), words.as_str(), (LARGEST, code), (want, line))?;
+        expect(
+            &rt,
+            rt.alloc(),
+            words.as_str(),
+            (LARGEST, code),
+            (want, line),
+        )?;
     }
     Ok(())
 }
