@@ -3,6 +3,7 @@ use Rattle.std.specs.Prelude.{not, ◌&&◌, if◌then◌else◌, int_lt, int_le
 use Rattle.std.proofs.Common.{◌≡◌, Bool, refl, true, false, [], ◌∷◌, ℤ, pos, ◌-ℤ◌, ◌*ℤ◌, ◌<ℤ◌, ◌≤ℤ◌, arith}
 use Rattle.std.proofs.lemmas.Int.{ints, by_lt_z}
 use Rattle.integer_algebra.proofs.Ring.{ring, V, K, ◌⊖◌, ◌⊗◌}
+use Rattle.integer_algebra.proofs.Order.{sign_of_pos, sign_of_nonpos}
 use Rattle.plane_exact.specs.Plane.{GridPoint, rational}
 use Rattle.plane_exact.specs.Product.{cross_of}
 use Rattle.engrave_model.specs.Inside.{is_counted}
@@ -17,6 +18,13 @@ same_lt a b c d below above =
     (λ l. let holds : c <ℤ d = below l in grind (arith, ints))
     (λ l. let fails : d ≤ℤ c = above l in grind (arith, ints))
 
+-- the sign of a difference by that of a multiple of it
+pub scaled_test : (m gap less more : ℤ) → pos 0 <ℤ m → m *ℤ gap ≡ more -ℤ less → int_lt less more ≡ int_lt (pos 0) gap
+scaled_test m gap less more some is =
+    same_lt less more (pos 0) gap
+    (λ l. sign_of_pos m gap (omega (arith, ints)) (omega (arith, ints)))
+    (λ l. sign_of_nonpos m gap some (omega (arith, ints)))
+
 -- the cross product of an edge and the way to p, by how far p is along and across
 cross_parts : (ax ay bx by px py : ℤ)
     → (bx -ℤ ax) *ℤ (py -ℤ ay) -ℤ (by -ℤ ay) *ℤ (px -ℤ ax)
@@ -26,7 +34,7 @@ cross_parts ax ay bx by px py =
     let across = (V 4 ⊖ V 0) ⊗ (V 3 ⊖ V 1) in
     ring (ax ∷ ay ∷ bx ∷ by ∷ px ∷ py ∷ []) ((V 2 ⊖ V 0) ⊗ (V 5 ⊖ V 1) ⊖ (V 3 ⊖ V 1) ⊗ (V 4 ⊖ V 0)) (along ⊖ across) tt
 
-left_of : (cross along across : ℤ) → cross ≡ along -ℤ across → int_lt (pos 0) cross ≡ int_lt across along
+pub left_of : (cross along across : ℤ) → cross ≡ along -ℤ across → int_lt (pos 0) cross ≡ int_lt across along
 left_of cross along across is = same_lt (pos 0) cross across along (λ l. omega (arith, ints)) (λ l. omega (arith, ints))
 
 right_of : (cross along across : ℤ) → cross ≡ along -ℤ across → int_lt cross (pos 0) ≡ int_lt along across

@@ -4,10 +4,10 @@ use Rattle.std.specs.Prelude.{◌&&◌, int_lt}
 use Rattle.std.proofs.Common.{◌≡◌, Bool, true, false, refl, ℤ, pos, neg_ℤ, ◌+ℤ◌, ◌-ℤ◌, ◌*ℤ◌, ◌≤ℤ◌, ◌<ℤ◌, [], ◌∷◌, arith, subst}
 use Rattle.std.proofs.lemmas.Int.{ints}
 use Rattle.integer_algebra.proofs.Ring.{ring, V, K, M, ◌⊕◌, ◌⊖◌, ◌⊗◌}
-use Rattle.integer_algebra.proofs.Order.{cancel_lt, times_nonneg, times_pos, sign_of_pos, sign_of_nonpos}
+use Rattle.integer_algebra.proofs.Order.{cancel_lt, times_nonneg, times_pos}
 use Rattle.plane_exact.specs.Plane.{GridPoint, RationalPoint}
 use Rattle.engrave_model.specs.Inside.{is_at_or_below, passes_row, crosses_right_of, is_counted}
-use Rattle.evenodd_region.proofs.Counting.{same_lt}
+use Rattle.evenodd_region.proofs.Counting.{same_lt, scaled_test}
 use Rattle.evenodd_region.specs.Parity.{exactly_one, is_in_rows, is_right_of_line, is_right_of_path}
 use Rattle.evenodd_region.proofs.Levels.{IsLevel, path_turned, edge_turned}
 
@@ -45,14 +45,8 @@ module _ (v w : RationalPoint) (a b : GridPoint) where
       let of_b = V 1 ⊖ V 2 ⊗ V 7 in
       let of_v = V 9 ⊖ V 7 in
       record {
-        at_v = b.y -ℤ a.y;
-        at_w = pos 0;
-        at_a = v.over *ℤ b.y -ℤ v.y;
-        at_b = v.y -ℤ v.over *ℤ a.y;
-        v_sign = omega (arith, ints);
-        w_sign = record { le = tt };
-        a_sign = omega (arith, ints);
-        b_sign = omega (arith, ints);
+        path = record { first = b.y -ℤ a.y; last = pos 0; first_sign = omega (arith, ints); last_sign = record { le = tt } };
+        edge = record { first = v.over *ℤ b.y -ℤ v.y; last = v.y -ℤ v.over *ℤ a.y; first_sign = omega (arith, ints); last_sign = omega (arith, ints) };
         some = omega (arith, ints);
         over = ring xs (of_v ⊗ V 2 ⊕ K (pos 0) ⊗ V 5) (of_a ⊕ of_b) tt;
         height = ring xs (of_v ⊗ V 1 ⊕ K (pos 0) ⊗ V 4) (of_a ⊗ V 7 ⊕ of_b ⊗ V 9) tt;
@@ -124,14 +118,8 @@ module _ (v w : RationalPoint) (a b : GridPoint) where
       let of_w = V 2 ⊗ V 7 ⊖ V 1 in
       let of_a = V 2 ⊗ V 4 ⊖ V 5 ⊗ V 1 in
       record {
-        at_v = w.y -ℤ w.over *ℤ a.y;
-        at_w = v.over *ℤ a.y -ℤ v.y;
-        at_a = v.over *ℤ w.y -ℤ w.over *ℤ v.y;
-        at_b = pos 0;
-        v_sign = omega (arith, ints);
-        w_sign = omega (arith, ints);
-        a_sign = omega (arith, ints);
-        b_sign = record { le = tt };
+        path = record { first = w.y -ℤ w.over *ℤ a.y; last = v.over *ℤ a.y -ℤ v.y; first_sign = omega (arith, ints); last_sign = omega (arith, ints) };
+        edge = record { first = v.over *ℤ w.y -ℤ w.over *ℤ v.y; last = pos 0; first_sign = omega (arith, ints); last_sign = record { le = tt } };
         some = omega (arith, ints);
         over = ring xs (of_v ⊗ V 2 ⊕ of_w ⊗ V 5) (of_a ⊕ K (pos 0)) tt;
         height = ring xs (of_v ⊗ V 1 ⊕ of_w ⊗ V 4) (of_a ⊗ V 7 ⊕ K (pos 0) ⊗ V 9) tt;
@@ -152,13 +140,6 @@ module _ (v w : RationalPoint) (a b : GridPoint) where
       ring (v.x ∷ v.y ∷ v.over ∷ w.x ∷ w.y ∷ w.over ∷ a.x ∷ a.y ∷ [])
       (V 2 ⊗ (of_a ⊗ V 6 ⊖ ((V 4 ⊖ V 5 ⊗ V 7) ⊗ V 0 ⊕ (V 2 ⊗ V 7 ⊖ V 1) ⊗ V 3)))
       ((V 2 ⊗ V 6 ⊖ V 0) ⊗ of_a ⊖ (V 2 ⊗ V 7 ⊖ V 1) ⊗ (V 2 ⊗ V 3 ⊖ V 5 ⊗ V 0)) tt
-
--- a scaled gap's test
-scaled_test : (m gap less more : ℤ) → pos 0 <ℤ m → m *ℤ gap ≡ more -ℤ less → int_lt less more ≡ int_lt (pos 0) gap
-scaled_test m gap less more some is =
-    same_lt less more (pos 0) gap
-    (λ l. sign_of_pos m gap (omega (arith, ints)) (omega (arith, ints)))
-    (λ l. sign_of_nonpos m gap some (omega (arith, ints)))
 
 module _ (v w : RationalPoint) (a b : GridPoint) where
   path_of_row : is_in_rows v w a ≡ true → (gap : ℤ) × (IsLevel v w a b gap × (is_right_of_line v w a ≡ int_lt (pos 0) gap))

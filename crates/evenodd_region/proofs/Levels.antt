@@ -9,68 +9,51 @@ use Rattle.integer_algebra.proofs.Order.{mix, mix_nonneg, times_nonneg, times_po
 use Rattle.plane_exact.specs.Plane.{GridPoint, RationalPoint, IsBetween}
 use Rattle.evenodd_region.specs.Parity.{IsOnPath}
 
+-- weights of two ends
+pub record Weights : Type 0 where
+  pub first : ℤ
+  pub last : ℤ
+  pub first_sign : pos 0 ≤ℤ first
+  pub last_sign : pos 0 ≤ℤ last
+
+-- the sum of two numbers by their weights
+abbrev pub sum_of : Weights → ℤ → ℤ → ℤ
+sum_of of s t = mix of.first of.last s t
+
+-- the weights of the ends in the other order
+abbrev turned : Weights → Weights
+turned of = record { first = of.last; last = of.first; first_sign = of.last_sign; last_sign = of.first_sign }
+
 -- The weights of the path's ends and those of the edge's ends give two places at one height and over one denominator; the
 -- gap is how far the edge's place is to the right of the path's, times that denominator.
 pub record IsLevel (v w : RationalPoint) (a b : GridPoint) (gap : ℤ) : Type 0 where
-  pub at_v : ℤ
-  pub at_w : ℤ
-  pub at_a : ℤ
-  pub at_b : ℤ
-  pub v_sign : pos 0 ≤ℤ at_v
-  pub w_sign : pos 0 ≤ℤ at_w
-  pub a_sign : pos 0 ≤ℤ at_a
-  pub b_sign : pos 0 ≤ℤ at_b
-  pub some : pos 1 ≤ℤ (at_a +ℤ at_b)
-  pub over : mix at_v at_w v.over w.over ≡ at_a +ℤ at_b
-  pub height : mix at_v at_w v.y w.y ≡ mix at_a at_b a.y b.y
-  pub apart : gap ≡ mix at_a at_b a.x b.x -ℤ mix at_v at_w v.x w.x
+  pub path : Weights
+  pub edge : Weights
+  pub some : pos 1 ≤ℤ (edge.first +ℤ edge.last)
+  pub over : sum_of path v.over w.over ≡ edge.first +ℤ edge.last
+  pub height : sum_of path v.y w.y ≡ sum_of edge a.y b.y
+  pub apart : gap ≡ sum_of edge a.x b.x -ℤ sum_of path v.x w.x
 
-module _ (v w : RationalPoint) (a b : GridPoint) where
+module _ (v w : RationalPoint) (a b : GridPoint) (gap : ℤ) where
   -- the path turned round, and the edge
-  pub path_turned : (gap : ℤ) → IsLevel w v a b gap → IsLevel v w a b gap
-  path_turned gap l =
+  pub path_turned : IsLevel w v a b gap → IsLevel v w a b gap
+  path_turned l =
       let over = l.over in
       let height = l.height in
       let apart = l.apart in
-      record {
-        at_v = l.at_w;
-        at_w = l.at_v;
-        at_a = l.at_a;
-        at_b = l.at_b;
-        v_sign = l.w_sign;
-        w_sign = l.v_sign;
-        a_sign = l.a_sign;
-        b_sign = l.b_sign;
-        some = l.some;
-        over = omega (arith, ints);
-        height = omega (arith, ints);
-        apart = omega (arith, ints);
-      }
+      record { path = turned l.path; edge = l.edge; some = l.some; over = omega (arith, ints); height = omega (arith, ints); apart = omega (arith, ints) }
 
-  pub edge_turned : (gap : ℤ) → IsLevel v w b a gap → IsLevel v w a b gap
-  edge_turned gap l =
+  pub edge_turned : IsLevel v w b a gap → IsLevel v w a b gap
+  edge_turned l =
       let some = l.some in
       let over = l.over in
       let height = l.height in
       let apart = l.apart in
-      record {
-        at_v = l.at_v;
-        at_w = l.at_w;
-        at_a = l.at_b;
-        at_b = l.at_a;
-        v_sign = l.v_sign;
-        w_sign = l.w_sign;
-        a_sign = l.b_sign;
-        b_sign = l.a_sign;
-        some = omega (arith, ints);
-        over = omega (arith, ints);
-        height = omega (arith, ints);
-        apart = omega (arith, ints);
-      }
+      record { path = l.path; edge = turned l.edge; some = omega (arith, ints); over = omega (arith, ints); height = omega (arith, ints); apart = omega (arith, ints) }
 
 -- ---- weighted sums of two levels
 
-mix_some : (h g s t : ℤ) → pos 0 <ℤ h → pos 0 ≤ℤ g → pos 1 ≤ℤ s → pos 0 ≤ℤ t → pos 1 ≤ℤ mix h g s t
+pub mix_some : (h g s t : ℤ) → pos 0 <ℤ h → pos 0 ≤ℤ g → pos 1 ≤ℤ s → pos 0 ≤ℤ t → pos 1 ≤ℤ mix h g s t
 mix_some h g s t h_sign g_sign s_sign t_sign =
     let p = times_pos h s h_sign (omega (arith, ints)) in
     let q = times_nonneg g t g_sign t_sign in
@@ -95,31 +78,37 @@ cancelled g h e p e' p' first second = sym
     ∙ ap₂ (mix h (neg_ℤ g)) (sym first) (sym second)
     ∙ ring (g ∷ h ∷ []) (V 1 ⊗ V 0 ⊕ M (V 0) ⊗ V 1) (K (pos 0)) tt)
 
+-- the weighted sum of two weights
+mixed : (h g : ℤ) → pos 0 ≤ℤ h → pos 0 ≤ℤ g → Weights → Weights → Weights
+mixed h g h_sign g_sign l m = record {
+  first = mix h g l.first m.first;
+  last = mix h g l.last m.last;
+  first_sign = mix_nonneg h g _ _ h_sign g_sign l.first_sign m.first_sign;
+  last_sign = mix_nonneg h g _ _ h_sign g_sign l.last_sign m.last_sign;
+}
+
 module _ (v w : RationalPoint) (a b : GridPoint) where
   -- Where one level's gap isn't to the right and another's is, path and edge meet: of both levels a weighted sum has no gap.
   pub meeting : (g h : ℤ) → IsLevel v w a b g → IsLevel v w a b h → g ≤ℤ pos 0 → pos 0 <ℤ h → IsLevel v w a b (pos 0)
+  unfolding mixed
   meeting g h l m left right =
       let of : ℤ → ℤ → ℤ = mix h (neg_ℤ g) in
       let h_sign : pos 0 ≤ℤ h = omega (arith, ints) in
       let g_sign : pos 0 ≤ℤ neg_ℤ g = omega (arith, ints) in
-      let all_some : pos 1 ≤ℤ of (l.at_a +ℤ l.at_b) (m.at_a +ℤ m.at_b) =
+      let path = mixed h (neg_ℤ g) h_sign g_sign l.path m.path in
+      let edge = mixed h (neg_ℤ g) h_sign g_sign l.edge m.edge in
+      let of_path = λ (s t : ℤ). exchanged h (neg_ℤ g) l.path.first m.path.first l.path.last m.path.last s t in
+      let of_edge = λ (s t : ℤ). exchanged h (neg_ℤ g) l.edge.first m.edge.first l.edge.last m.edge.last s t in
+      let all_some : pos 1 ≤ℤ of (l.edge.first +ℤ l.edge.last) (m.edge.first +ℤ m.edge.last) =
       mix_some h (neg_ℤ g) _ _ right g_sign l.some (let some = m.some in omega (arith, ints)) in
-      let whole = parted h (neg_ℤ g) l.at_a m.at_a l.at_b m.at_b in
+      let whole = parted h (neg_ℤ g) l.edge.first m.edge.first l.edge.last m.edge.last in
       record {
-        at_v = of l.at_v m.at_v;
-        at_w = of l.at_w m.at_w;
-        at_a = of l.at_a m.at_a;
-        at_b = of l.at_b m.at_b;
-        v_sign = mix_nonneg h (neg_ℤ g) _ _ h_sign g_sign l.v_sign m.v_sign;
-        w_sign = mix_nonneg h (neg_ℤ g) _ _ h_sign g_sign l.w_sign m.w_sign;
-        a_sign = mix_nonneg h (neg_ℤ g) _ _ h_sign g_sign l.a_sign m.a_sign;
-        b_sign = mix_nonneg h (neg_ℤ g) _ _ h_sign g_sign l.b_sign m.b_sign;
+        path = path;
+        edge = edge;
         some = subst (λ z. pos 1 ≤ℤ z) whole all_some;
-        over = exchanged h (neg_ℤ g) _ _ _ _ v.over w.over ∙ ap₂ of l.over m.over ∙ whole;
-        height = exchanged h (neg_ℤ g) _ _ _ _ v.y w.y ∙ ap₂ of l.height m.height ∙ sym (exchanged h (neg_ℤ g) _ _ _ _ a.y b.y);
-        apart =
-            cancelled g h _ _ _ _ l.apart m.apart
-            ∙ sym (ap₂ (λ e p. e -ℤ p) (exchanged h (neg_ℤ g) _ _ _ _ a.x b.x) (exchanged h (neg_ℤ g) _ _ _ _ v.x w.x));
+        over = of_path v.over w.over ∙ ap₂ of l.over m.over ∙ whole;
+        height = of_path v.y w.y ∙ ap₂ of l.height m.height ∙ sym (of_edge a.y b.y);
+        apart = cancelled g h _ _ _ _ l.apart m.apart ∙ sym (ap₂ (λ e p. e -ℤ p) (of_edge a.x b.x) (of_path v.x w.x));
       }
 
 -- ---- a level without gap is a common point
@@ -146,24 +135,27 @@ path_place s t v m w o n x over place =
 module _ (v w : RationalPoint) (a b : GridPoint) where
   pub shared : IsLevel v w a b (pos 0) → IsShared v w a b
   shared l =
-      let n = l.at_a +ℤ l.at_b in
+      let path = l.path in
+      let edge = l.edge in
+      let n = edge.first +ℤ edge.last in
       let no_gap = l.apart in
-      let across : mix l.at_v l.at_w v.x w.x ≡ mix l.at_a l.at_b a.x b.x = omega (arith, ints) in
-      let a_sign = l.a_sign in
+      let across : sum_of path v.x w.x ≡ sum_of edge a.x b.x = omega (arith, ints) in
+      let a_sign = edge.first_sign in
       let over = l.over in
       let v_over = v.positive in
       let w_over = w.positive in
-      let from_v = times_nonneg l.at_v v.over l.v_sign (omega (arith, ints)) in
+      let from_v = times_nonneg path.first v.over path.first_sign (omega (arith, ints)) in
+      let from_w = times_nonneg path.last w.over path.last_sign (omega (arith, ints)) in
       record {
-        point = record { x = mix l.at_a l.at_b a.x b.x; y = mix l.at_a l.at_b a.y b.y; over = n; positive = l.some };
+        point = record { x = sum_of edge a.x b.x; y = sum_of edge a.y b.y; over = n; positive = l.some };
         on_path = record {
-          at = record { k = l.at_w *ℤ w.over; n = n; start = times_nonneg l.at_w w.over l.w_sign (omega (arith, ints)); finish = omega (arith, ints); some = l.some };
-          across = path_place l.at_v l.at_w v.x v.over w.x w.over n _ over across;
-          up = path_place l.at_v l.at_w v.y v.over w.y w.over n _ over l.height;
+          at = record { k = path.last *ℤ w.over; n = n; start = from_w; finish = omega (arith, ints); some = l.some };
+          across = path_place path.first path.last v.x v.over w.x w.over n _ over across;
+          up = path_place path.first path.last v.y v.over w.y w.over n _ over l.height;
         };
         on_edge = record {
-          at = record { k = l.at_b; n = n; start = l.b_sign; finish = omega (arith, ints); some = l.some };
-          across = edge_place l.at_a l.at_b a.x b.x;
-          up = edge_place l.at_a l.at_b a.y b.y;
+          at = record { k = edge.last; n = n; start = edge.last_sign; finish = omega (arith, ints); some = l.some };
+          across = edge_place edge.first edge.last a.x b.x;
+          up = edge_place edge.first edge.last a.y b.y;
         };
       }

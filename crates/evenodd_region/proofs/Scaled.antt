@@ -1,15 +1,15 @@
 -- How an edge lies to a rational point, by the ways from its ends to the point: their cross and dot product, times the square
 -- of the point's denominator.
 use Rattle.std.specs.Prelude.{int_lt}
-use Rattle.std.proofs.Common.{◌≡◌, true, false, ℤ, pos, ◌+ℤ◌, ◌-ℤ◌, ◌*ℤ◌, ◌≤ℤ◌, ◌<ℤ◌, [], ◌∷◌, arith, sym, subst, ◌∙◌}
+use Rattle.std.proofs.Common.{◌≡◌, ℕ, true, false, ℤ, pos, ◌+ℤ◌, ◌-ℤ◌, ◌*ℤ◌, ◌≤ℤ◌, ◌<ℤ◌, List, [], ◌∷◌, arith, refl, sym, subst, ◌∙◌}
 use Rattle.std.proofs.lemmas.Int.{ints}
-use Rattle.integer_algebra.proofs.Ring.{ring, V, K, ◌⊕◌, ◌⊖◌, ◌⊗◌}
-use Rattle.integer_algebra.proofs.Order.{cancel_lt, sign_of_pos, sign_of_nonpos, sign_of_nonneg, sign_of_negative}
+use Rattle.integer_algebra.proofs.Ring.{ring, Term, V, K, ◌⊕◌, ◌⊖◌, ◌⊗◌}
+use Rattle.integer_algebra.proofs.Order.{cancel_lt}
 use Rattle.plane_exact.specs.Plane.{GridPoint, RationalPoint, IsBetween, rational}
 use Rattle.plane_exact.specs.Product.{cross_of, dot_of}
 use Rattle.plane_exact.proofs.Collinear.{on_segment, on_line, between_ends}
 use Rattle.engrave_model.specs.Inside.{is_at_or_below, is_counted}
-use Rattle.evenodd_region.proofs.Counting.{same_lt}
+use Rattle.evenodd_region.proofs.Counting.{left_of, scaled_test}
 use Rattle.evenodd_region.specs.Ratios.{turn, facing}
 
 -- ---- a point of the edge: all coordinates times the denominator, it is a grid point
@@ -19,6 +19,9 @@ scaled over p = record { x = over *ℤ p.x; y = over *ℤ p.y }
 
 abbrev numerators : RationalPoint → GridPoint
 numerators w = record { x = w.x; y = w.y }
+
+minus_turned : (m x y : ℤ) → m *ℤ (y -ℤ x) ≡ pos 0 -ℤ m *ℤ (x -ℤ y)
+minus_turned m x y = ring (m ∷ x ∷ y ∷ []) (V 0 ⊗ (V 2 ⊖ V 1)) (K (pos 0) ⊖ V 0 ⊗ (V 1 ⊖ V 2)) tt
 
 module _ (w : RationalPoint) (a b : GridPoint) where
   between_scaled : (over k n a b : ℤ) → over *ℤ (n *ℤ a +ℤ k *ℤ (b -ℤ a)) ≡ pos 1 *ℤ (n *ℤ (over *ℤ a) +ℤ k *ℤ (over *ℤ b -ℤ over *ℤ a))
@@ -39,23 +42,20 @@ module _ (w : RationalPoint) (a b : GridPoint) where
     up = on.up ∙ sym (between_scaled w.over on.at.k on.at.n a.y b.y);
   }
 
+  -- the numbers of the point and of the edge, and a scaled one of the edge's as a term over them
+  abbrev numbers : List ℤ
+  numbers = w.x ∷ w.y ∷ w.over ∷ a.x ∷ a.y ∷ b.x ∷ b.y ∷ []
+
+  abbrev at : ℕ → Term
+  at k = V 2 ⊗ V k
+
   turn_is : cross_of (scaled w.over a) (scaled w.over b) (numerators w) ≡ turn w a b
   turn_is =
-      let ax = V 2 ⊗ V 3 in
-      let ay = V 2 ⊗ V 4 in
-      let bx = V 2 ⊗ V 5 in
-      let by = V 2 ⊗ V 6 in
-      ring (w.x ∷ w.y ∷ w.over ∷ a.x ∷ a.y ∷ b.x ∷ b.y ∷ [])
-      ((bx ⊖ ax) ⊗ (V 1 ⊖ ay) ⊖ (by ⊖ ay) ⊗ (V 0 ⊖ ax)) ((V 0 ⊖ ax) ⊗ (V 1 ⊖ by) ⊖ (V 1 ⊖ ay) ⊗ (V 0 ⊖ bx)) tt
+      ring numbers ((at 5 ⊖ at 3) ⊗ (V 1 ⊖ at 4) ⊖ (at 6 ⊖ at 4) ⊗ (V 0 ⊖ at 3)) ((V 0 ⊖ at 3) ⊗ (V 1 ⊖ at 6) ⊖ (V 1 ⊖ at 4) ⊗ (V 0 ⊖ at 5)) tt
 
   facing_is : dot_of (numerators w) (scaled w.over a) (scaled w.over b) ≡ facing w a b
   facing_is =
-      let ax = V 2 ⊗ V 3 in
-      let ay = V 2 ⊗ V 4 in
-      let bx = V 2 ⊗ V 5 in
-      let by = V 2 ⊗ V 6 in
-      ring (w.x ∷ w.y ∷ w.over ∷ a.x ∷ a.y ∷ b.x ∷ b.y ∷ [])
-      ((ax ⊖ V 0) ⊗ (bx ⊖ V 0) ⊕ (ay ⊖ V 1) ⊗ (by ⊖ V 1)) ((V 0 ⊖ ax) ⊗ (V 0 ⊖ bx) ⊕ (V 1 ⊖ ay) ⊗ (V 1 ⊖ by)) tt
+      ring numbers ((at 3 ⊖ V 0) ⊗ (at 5 ⊖ V 0) ⊕ (at 4 ⊖ V 1) ⊗ (at 6 ⊖ V 1)) ((V 0 ⊖ at 3) ⊗ (V 0 ⊖ at 5) ⊕ (V 1 ⊖ at 4) ⊗ (V 1 ⊖ at 6)) tt
 
   pub on_edge : turn w a b ≡ pos 0 → facing w a b ≤ℤ pos 0 → IsBetween a b w
   on_edge level near = from_scaled (on_segment _ _ _ (turn_is ∙ level) (subst (λ z. z ≤ℤ pos 0) (sym facing_is) near))
@@ -66,9 +66,8 @@ module _ (w : RationalPoint) (a b : GridPoint) where
   pub between_its_ends : IsBetween a b w → facing w a b ≤ℤ pos 0
   between_its_ends on = subst (λ z. z ≤ℤ pos 0) facing_is (between_ends _ _ _ (to_scaled on))
 
--- ---- the edge is counted
+  -- ---- the edge is counted
 
-module _ (w : RationalPoint) (a b : GridPoint) where
   abbrev along : ℤ
   along = (w.y -ℤ w.over *ℤ a.y) *ℤ (b.x -ℤ a.x)
 
@@ -77,13 +76,7 @@ module _ (w : RationalPoint) (a b : GridPoint) where
 
   turn_scaled : turn w a b ≡ w.over *ℤ (along -ℤ across)
   turn_scaled =
-      let ax = V 2 ⊗ V 3 in
-      let ay = V 2 ⊗ V 4 in
-      let bx = V 2 ⊗ V 5 in
-      let by = V 2 ⊗ V 6 in
-      ring (w.x ∷ w.y ∷ w.over ∷ a.x ∷ a.y ∷ b.x ∷ b.y ∷ [])
-      ((V 0 ⊖ ax) ⊗ (V 1 ⊖ by) ⊖ (V 1 ⊖ ay) ⊗ (V 0 ⊖ bx))
-      (V 2 ⊗ ((V 1 ⊖ ay) ⊗ (V 5 ⊖ V 3) ⊖ (V 0 ⊖ ax) ⊗ (V 6 ⊖ V 4))) tt
+      ring numbers ((V 0 ⊖ at 3) ⊗ (V 1 ⊖ at 6) ⊖ (V 1 ⊖ at 4) ⊗ (V 0 ⊖ at 5)) (V 2 ⊗ ((V 1 ⊖ at 4) ⊗ (V 5 ⊖ V 3) ⊖ (V 0 ⊖ at 3) ⊗ (V 6 ⊖ V 4))) tt
 
   pub rising_counted : is_at_or_below a w ≡ true → is_at_or_below b w ≡ false
       → int_lt (pos 0) (turn w a b) ≡ is_counted w (record { a = a; b = b })
@@ -93,9 +86,7 @@ module _ (w : RationalPoint) (a b : GridPoint) where
       let test : int_lt a.y b.y ≡ true = grind (arith, ints) in
       let is = turn_scaled in
       rw (starts, ends, test)
-      (same_lt (pos 0) (turn w a b) across along
-      (λ l. let p = sign_of_pos w.over (along -ℤ across) (omega (arith, ints)) (omega (arith, ints)) in omega (arith, ints))
-      (λ l. let p = sign_of_nonpos w.over (along -ℤ across) (omega (arith, ints)) (omega (arith, ints)) in omega (arith, ints)))
+      (scaled_test w.over (along -ℤ across) (pos 0) (turn w a b) (omega (arith, ints)) (omega (arith, ints)) ∙ left_of _ along across refl)
 
   pub falling_counted : is_at_or_below a w ≡ false → is_at_or_below b w ≡ true
       → int_lt (turn w a b) (pos 0) ≡ is_counted w (record { a = a; b = b })
@@ -104,7 +95,6 @@ module _ (w : RationalPoint) (a b : GridPoint) where
       let down : b.y <ℤ a.y = cancel_lt w.over b.y a.y (omega (arith, ints)) (omega (arith, ints)) in
       let test : int_lt a.y b.y ≡ false = grind (arith, ints) in
       let is = turn_scaled in
+      let turned = minus_turned w.over along across in
       rw (starts, ends, test)
-      (same_lt (turn w a b) (pos 0) along across
-      (λ l. let p = sign_of_negative w.over (along -ℤ across) (omega (arith, ints)) (omega (arith, ints)) in omega (arith, ints))
-      (λ l. let p = sign_of_nonneg w.over (along -ℤ across) (omega (arith, ints)) (omega (arith, ints)) in omega (arith, ints)))
+      (scaled_test w.over (across -ℤ along) (turn w a b) (pos 0) (omega (arith, ints)) (omega (arith, ints)) ∙ left_of _ across along refl)

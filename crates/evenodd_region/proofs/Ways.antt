@@ -12,19 +12,14 @@ use Rattle.engrave_model.specs.Removal.{Moment, between, place_at, depth_at, fro
 use Rattle.plane_exact.proofs.Fractions.{first, last}
 use Rattle.evenodd_region.specs.Parity.{IsOnPath}
 use Rattle.evenodd_region.proofs.Discs.{IsSamePlace}
+use Rattle.evenodd_region.proofs.Levels.{mix_some}
 use Rattle.evenodd_region.proofs.Tenths.{tenth}
 
 -- ---- a moment between two
 
 some_of_both : (i j p q : ℤ) → pos 0 ≤ℤ i → pos 0 ≤ℤ j → pos 0 <ℤ p → pos 0 <ℤ q → (pos 0 <ℤ i) ⊎ (pos 0 <ℤ j) → pos 0 <ℤ mix i j p q
-some_of_both i j p q i_sign j_sign p_some q_some (inl some) =
-    let first = times_pos i p some p_some in
-    let second = times_nonneg j q j_sign (omega (arith, ints)) in
-    omega (arith, ints)
-some_of_both i j p q i_sign j_sign p_some q_some (inr some) =
-    let first = times_nonneg i p i_sign (omega (arith, ints)) in
-    let second = times_pos j q some q_some in
-    omega (arith, ints)
+some_of_both i j p q i_sign j_sign p_some q_some (inl some) = let both = mix_some i j p q some j_sign (omega (arith, ints)) (omega (arith, ints)) in omega (arith, ints)
+some_of_both i j p q i_sign j_sign p_some q_some (inr some) = let both = mix_some j i q p some i_sign (omega (arith, ints)) (omega (arith, ints)) in omega (arith, ints)
 
 module _ (s t : Moment) (at : Fraction) where
   abbrev k : ℤ
@@ -145,32 +140,24 @@ pub record IsDeepEnd (mv : Move) (p : GridPoint) : Type 0 where
   pub deep : pos 0 <ℤ depth_at mv moment
   pub same : from_tenths p ≡ tenth (place_at mv moment)
 
-deep_first : (mv : Move) → 0 < depth_of mv.from.h → IsDeepEnd mv mv.from.at
-deep_first mv deep =
-    let h = below_surface mv.from.h deep in
-    let is = at_first mv.from.h mv.to.h in
+-- an end of the move is the place at the moment that gives of two numbers that end's
+end_at : (mv : Move) (k : ℤ) (start : pos 0 ≤ℤ k) (finish : k ≤ℤ pos 1) (end : ℤ → ℤ → ℤ) → ((f l : ℤ) → end f l ≡ (pos 1 -ℤ k) *ℤ f +ℤ k *ℤ l)
+    → 0 < depth_of (end mv.from.h mv.to.h) → IsDeepEnd mv (record { x = end mv.from.at.x mv.to.at.x; y = end mv.from.at.y mv.to.at.y })
+end_at mv k start finish end is deep =
+    let h = below_surface (end mv.from.h mv.to.h) deep in
+    let height = is mv.from.h mv.to.h in
     record {
-      moment = first;
+      moment = record { k = k; n = pos 1; start = start; finish = finish; some = record { le = tt } };
       deep = omega (arith, ints);
-      same = same_tenths _ _ _ _ (at_first mv.from.at.x mv.to.at.x) (at_first mv.from.at.y mv.to.at.y);
-    }
-
-deep_last : (mv : Move) → 0 < depth_of mv.to.h → IsDeepEnd mv mv.to.at
-deep_last mv deep =
-    let h = below_surface mv.to.h deep in
-    let is = at_last mv.from.h mv.to.h in
-    record {
-      moment = last;
-      deep = omega (arith, ints);
-      same = same_tenths _ _ _ _ (at_last mv.from.at.x mv.to.at.x) (at_last mv.from.at.y mv.to.at.y);
+      same = same_tenths _ _ _ _ (is mv.from.at.x mv.to.at.x) (is mv.from.at.y mv.to.at.y);
     }
 
 pub deep_end : (mv : Move) → IsDeep mv → IsDeepEnd mv (first_deep mv)
 deep_end mv deep = by_test (nat_lt 0 (depth_of mv.from.h)) refl
   where
     by_test : (test : Bool) → nat_lt 0 (depth_of mv.from.h) ≡ test → IsDeepEnd mv (if test then mv.from.at else mv.to.at)
-    by_test true is = deep_first mv (grind arith)
+    by_test true is = end_at mv first.k first.start first.finish (λ f l. f) at_first (grind arith)
     by_test false is = elim deep [
       | inl from ↦ absurd (grind arith)
-      | inr to ↦ deep_last mv to
+      | inr to ↦ end_at mv last.k last.start last.finish (λ f l. l) at_last to
     ]
