@@ -48,11 +48,11 @@ module _ (low high : GridPoint) where
 
 -- ---- how far a point is in a direction
 
-abbrev along : (α β x y : ℤ) → ℤ
+abbrev pub along : (α β x y : ℤ) → ℤ
 along α β x y = α *ℤ x +ℤ β *ℤ y
 
 -- a point of an edge is at least as far as its ends
-edge_beyond : (α β c : ℤ) (a b : GridPoint) (u : RationalPoint) → c ≤ℤ along α β a.x a.y → c ≤ℤ along α β b.x b.y → IsBetween a b u → (u.over *ℤ c) ≤ℤ along α β u.x u.y
+pub edge_beyond : (α β c : ℤ) (a b : GridPoint) (u : RationalPoint) → c ≤ℤ along α β a.x a.y → c ≤ℤ along α β b.x b.y → IsBetween a b u → (u.over *ℤ c) ≤ℤ along α β u.x u.y
 edge_beyond α β c a b u at_a at_b on =
     let k = on.at.k in
     let n = on.at.n in

@@ -12,3 +12,6 @@ pub mod Tenths
 pub mod Scaled
 pub mod Reach
 pub mod Answered
+pub mod Filling
+pub mod InBand
+pub mod RowNumbers

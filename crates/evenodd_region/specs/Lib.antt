@@ -1,5 +1,6 @@
 -- The definitions of the crate.
 pub mod Bounds
+pub mod Layouts
 pub mod Lookup
 pub mod Parity
 pub mod Ratios

@@ -4,6 +4,8 @@
 //! along a path that meets no edge, inside doesn't change; an inside point is strictly within the bounds of the drawing's points.
 #![tactic(auto)]
 
+mod bands;
+mod fill;
 mod grid;
 pub mod law;
 mod ratio;

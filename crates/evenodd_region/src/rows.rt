@@ -1,11 +1,12 @@
-// Which points a drawing holds, by the even-odd rule over a copy of its edges.
-ghost use Rattle.std.specs.Prelude.{◌≡◌, ◌↔◌, ◌%◌, IsTrue, List, count_by, IfOk};
+// Which points a drawing holds, by the even-odd rule over the edges of a band of rows.
+ghost use Rattle.std.specs.Prelude.{◌≡◌, ◌↔◌, ◌%◌, ◌≤◌, pos, ◌-ℤ◌, IsTrue, List, count_by, filter, IfOk};
 ghost use Rattle.plane_exact.specs.Plane.{GridPoint, RationalPoint, rational};
 ghost use Rattle.engrave_model.specs.Drawing.{edges_of};
 ghost use Rattle.engrave_model.specs.Inside.{IsInside, IsOnOutline, is_counted};
-ghost use Rattle.evenodd_region.specs.Lookup.{AreRowsOf, IsPointOf, IsRatio};
+ghost use Rattle.evenodd_region.specs.Lookup.{AreRowsOf, IsOfRow, IsPointOf, IsRatio, band_of, lies_in};
 ghost use Rattle.evenodd_region.specs.Ratios.{rational_of};
 
+use crate::bands::Layout;
 use crate::grid::is_inside;
 use crate::ratio::RatioPoint;
 use crate::sides::{is_edge_counted, is_on_edge};
@@ -14,29 +15,44 @@ use plane_exact::{Point, Seg};
 use std::alloc::{AllocError, Global};
 use std::marker::Model;
 
-/// The edges of a drawing, kept for asking which points it holds.
+/// The edges of a drawing by bands of rows, kept for asking which points it holds.
 #[derive(Debug, Drop)]
 pub struct Rows {
-    edges: Vec<Seg>,
+    layout: Layout,
+    // Copies of the edges, and not their numbers: a question reads all edges of a band, which so stand one behind the other,
+    // and the rows borrow nothing of the drawing.
+    bands: Vec<Vec<Seg>>,
 }
 
 impl Model for Rows {
-    ghost use Rattle.std.specs.Prelude.{List};
-    ghost use Rattle.plane_exact.specs.declared.point.Seg.{Seg};
+    ghost use Rattle.std.specs.Prelude.{◌≡◌, map, vec_len};
+    ghost use Rattle.evenodd_region.specs.Lookup.{Bands};
 
-    ghost Value = { List Seg };
+    ghost Value = { Bands };
 
-    ghost view = { λ rows. rows.edges.items };
+    ghost view = { λ rows. record { low = rows.layout.low; height = rows.layout.height; edges = map (λ band. band.items) rows.bands.items } };
+
+    ghost invariant = { λ rows. vec_len rows.bands ≡ rows.layout.count };
 }
 
 impl Rows {
-    /// The rows of the drawing, kept in this allocator. The error is want of memory.
+    /// The rows of the drawing, kept in this allocator. The error is running out of memory.
     pub fn build(alloc: Global, drawing: &Drawing) -> Result<Rows, AllocError>
         ensures { IfOk result (λ rows. AreRowsOf rows drawing.now) }
     {
+        let edges = drawing.all_edges();
+        let layout = Layout::of(edges);
         Ok(Rows {
-            edges: Vec::from_slice(alloc, drawing.all_edges())?,
+            layout,
+            bands: layout.bands(alloc, edges)?,
         })
+    }
+
+    // The edges of the band that the row belongs to.
+    pub(crate) fn band_of(&self, row: i32) -> &[Seg]
+        ensures { (loops : List (List GridPoint)) → AreRowsOf self.now loops → result.now ≡ filter (lies_in self.now (band_of self.now row)) (edges_of loops) }
+    {
+        &self.bands[self.layout.band_of(row)]
     }
 }
 
@@ -45,7 +61,7 @@ impl Rows {
 pub fn inside(rows: &Rows, p: Point) -> bool
     ensures { (loops : List (List GridPoint)) → AreRowsOf rows.now loops → IsTrue result ↔ IsInside (edges_of loops) (rational p) }
 {
-    is_inside(&rows.edges, p)
+    is_inside(rows.band_of(p.y()), p)
 }
 
 /// Whether the drawing for which the rows stand holds the point (x / den, y / den), in grid units. The denominator is from 1
@@ -54,7 +70,24 @@ pub fn inside_ratio(rows: &Rows, x: i128, y: i128, den: i128) -> bool
     requires { IsRatio x y den }
     ensures { (loops : List (List GridPoint)) (w : RationalPoint) → AreRowsOf rows.now loops → IsPointOf x y den w → IsTrue result ↔ IsInside (edges_of loops) w }
 {
-    is_inside_at(&rows.edges, RatioPoint { x, y, over: den })
+    let p = RatioPoint { x, y, over: den };
+    is_inside_at(rows.band_of(row_of(p)), p)
+}
+
+// The row that the point belongs to.
+fn row_of(p: RatioPoint) -> i32
+    ensures { IsOfRow result (rational_of p) }
+{
+    whole_rows(p) as i32 - 40_960
+}
+
+// How many whole rows the point is above the row -40,960, the lowest near the grid.
+fn whole_rows(p: RatioPoint) -> u32
+    ensures few { result ≤ 81919 }
+    ensures row { IsOfRow (pos result -ℤ pos 40960) (rational_of p) }
+{
+    let above = (p.y + 40_960 * p.over) as u64;
+    (above / p.over as u64) as u32
 }
 
 fn is_inside_at(edges: &[Seg], p: RatioPoint) -> bool
