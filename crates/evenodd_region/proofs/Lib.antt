@@ -15,3 +15,6 @@ pub mod Answered
 pub mod Filling
 pub mod InBand
 pub mod RowNumbers
+pub mod BitRuns
+pub mod RowMeets
+pub mod Marking

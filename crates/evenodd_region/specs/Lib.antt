@@ -2,6 +2,8 @@
 pub mod Bounds
 pub mod Layouts
 pub mod Lookup
+pub mod Meetings
 pub mod Parity
 pub mod Ratios
+pub mod RowBits
 pub mod SafeMoves

@@ -1,18 +1,23 @@
 //! Which points a drawing holds, and laws of the even-odd rule.
 //!
-//! Its promise is in the clauses of `inside` and `inside_ratio`, for points of the grid and between them, and the laws of `law`:
-//! along a path that meets no edge, inside doesn't change; an inside point is strictly within the bounds of the drawing's points.
+//! Its promise is in the clauses of `inside`, `inside_ratio` and `row_inside`, for points of the grid, between them, and for
+//! whole rows of them, and the laws of `law`: along a path that meets no edge, inside doesn't change; an inside point is
+//! strictly within the bounds of the drawing's points.
 #![tactic(auto)]
 
 mod bands;
 mod fill;
 mod grid;
 pub mod law;
+mod marks;
+mod meeting;
 mod ratio;
 mod rows;
 mod sides;
 #[cfg(test)]
 mod tests;
+mod words;
 
 pub use grid::is_inside;
+pub use marks::row_inside;
 pub use rows::{Rows, inside, inside_ratio};
