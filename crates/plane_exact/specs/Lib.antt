@@ -4,5 +4,6 @@ pub mod Distance
 pub mod Heights
 pub mod Meet
 pub mod Moves
+pub mod Nodes
 pub mod Plane
 pub mod Product
