@@ -2,8 +2,10 @@
 use Rattle.std.proofs.Common.{◌≡◌, lit<, ℤ, pos, ◌+ℤ◌, ◌-ℤ◌, ◌*ℤ◌, ◌≤ℤ◌, ◌<ℤ◌, int_le, true, false, FitsSigned, of_z, w32, w64, arith, refl, ap, ap₂, sym, subst, ◌∙◌}
 use borrow.Author.Differences.{true_is_le}
 use Rattle.std.proofs.lemmas.Int.{ints}
+use Rattle.integer_algebra.proofs.Order.{product_up_to, square_nonneg, sum_up_to}
+use Rattle.plane_exact.specs.Distance.{square}
 use Rattle.plane_exact.specs.Plane.{IsCoordinate}
-use Rattle.plane_exact.specs.Product.{IsDifference, IsProduct}
+use Rattle.plane_exact.specs.Product.{IsDifference, IsProduct, IsSquaredLength}
 use Rattle.plane_exact.specs.declared.product.Offset.{Offset}
 use Rattle.plane_exact.proofs.Stored.{IsStoredUpTo, narrow, wide, read_is, difference_stored, sum_stored}
 
@@ -57,3 +59,12 @@ read_zero r d range e t = omega (arith, ints)
 
 pub zero_read : (r d : ℤ) → IsProduct r → r ≡ d → d ≡ pos 0 → of_z w64 r ≡ 0
 zero_read r d range e z = omega (arith, ints)
+
+-- the square of an offset's length
+pub length_within : (a b z : ℤ) → IsDifference a → IsDifference b → z ≡ square a +ℤ square b → IsSquaredLength z
+length_within a b z on_a on_b is =
+    let p = square_nonneg a in
+    let q = square_nonneg b in
+    let range = sum_up_to _ _ _ _ (product_up_to (pos 65535) (pos 65535) a a on_a on_a) (product_up_to (pos 65535) (pos 65535) b b on_b on_b) in
+    let high = range.high in
+    record { low = omega (arith, ints); high = omega (arith, ints) }
