@@ -1,10 +1,9 @@
 -- When the bit's disc holds no point of an edge, by distances; and that a lesser disc is clear with a greater one.
-use Rattle.std.proofs.Common.{◌≡◌, ◌≢◌, ℕ, ◌*◌, ◌≤◌, pos, ◌-ℤ◌, ◌*ℤ◌, ◌<ℤ◌, ◌≤ℤ◌, arith, List, get_or, ap, subst, ◌∙◌, inl, inr, ◌↔◌}
+use Rattle.std.proofs.Common.{◌≡◌, ◌≢◌, ℕ, ◌*◌, ◌≤◌, pos, ◌-ℤ◌, ◌*ℤ◌, ◌<ℤ◌, ◌≤ℤ◌, arith, List, ap, subst, ◌∙◌, inl, inr, ◌↔◌}
 use Rattle.std.specs.Prelude.{All}
 use Rattle.std.proofs.lemmas.Int.{ints, by_lt_z}
 use Rattle.std.proofs.Math.Nat.{mul-le-mul_left}
 use Rattle.std.proofs.Math.IntN.{*ℤ_comm}
-use Rattle.std.proofs.lemmas.List.{get_or_default}
 use Rattle.std.proofs.lemmas.Bool.Decides.{eqb_tells}
 use Rattle.integer_algebra.proofs.Order.{square_le, square_nonneg, times_le, times_nonneg, zero_times}
 use Rattle.plane_exact.specs.Plane.{GridPoint, RationalPoint, IsBetween, rational}
@@ -12,6 +11,7 @@ use Rattle.plane_exact.specs.Cone.{Cone}
 use Rattle.plane_exact.specs.Distance.{square, scaled_distance, IsAtLeastApart, IsCloser}
 use Rattle.plane_exact.specs.declared.point.Seg.{Seg}
 use Rattle.engrave_model.specs.Depth.{IsInDisc, IsEdgeClear, IsDiscClear}
+use Rattle.engrave_model.proofs.Outline.{each_of_outline, outline_of_each}
 
 pub distance_nonneg : (v w : RationalPoint) → pos 0 ≤ℤ scaled_distance v w
 distance_nonneg v w =
@@ -59,15 +59,11 @@ module _ (cone : Cone) (z : ℕ) (v w : RationalPoint) where
 module _ (edges : List Seg) (cone : Cone) (p : GridPoint) (z : ℕ) where
   pub clear_of_each : All (IsEdgeClear cone p z) edges → IsDiscClear edges cone p z
   unfolding IsDiscClear IsEdgeClear
-  clear_of_each each w on =
-      let e = on.1 in
-      let clear : IsEdgeClear cone p z e = subst (IsEdgeClear cone p z) on.3 (each on.0 e on.2) in
-      clear w on.4
+  clear_of_each = outline_of_each (λ w. ¬ IsInDisc cone (rational p) (pos z) (pos 1) w) edges
 
   pub each_of_clear : IsDiscClear edges cone p z → All (IsEdgeClear cone p z) edges
   unfolding IsDiscClear IsEdgeClear
-  each_of_clear clear k d below w between =
-      clear w (k, get_or edges k d, below, get_or_default edges k (get_or edges k d) d below, between)
+  each_of_clear = each_of_outline (λ w. ¬ IsInDisc cone (rational p) (pos z) (pos 1) w) edges
 
 -- the test of a distance, at the bit's own numbers, says whether the edge is clear
 pub edge_clear : (Yes : Type 0) (cone : Cone) (p : GridPoint) (z : ℕ) (e : Seg) (sn sd : ℕ) → sn ≡ cone.sn → sd ≡ cone.sd

@@ -1,2 +1,3 @@
 -- The lemmas of the crate.
 pub mod Discs
+pub mod Outline

@@ -1,4 +1,5 @@
 -- The definitions of the crate.
+pub mod Crossing
 pub mod Depth
 pub mod Drawing
 pub mod Inside
