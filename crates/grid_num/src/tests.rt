@@ -1,5 +1,5 @@
-// Numbers in text, at the scales of the units and at the ends of what is read. The expected answers are written by hand.
-use crate::{NumFault, read_decimal, write_decimal};
+// Numbers in text, at the scales of the units and at the ends of what is read, and square roots. The expected answers are written by hand.
+use crate::{NumFault, isqrt, read_decimal, write_decimal};
 use std::test::Fail;
 
 #[test]
@@ -74,6 +74,39 @@ fn numbers_are_written(rt: HostRuntime) -> Result<(), Fail> {
         let (first, written) = text.as_slice().split_at(1);
         assert_eq!(rt; first, b"X".as_slice());
         assert_eq!(rt; written, want, "{value} at {per_unit}");
+    }
+    Ok(())
+}
+
+#[test]
+fn roots_around_squares(rt: HostRuntime) -> Result<(), Fail> {
+    let rows: [(u128, u64); 14] = [
+        (0, 0),
+        (1, 1),
+        (3, 1),
+        (4, 2),
+        (8_589_672_450, 92_680),
+        ((1 << 64) - 1, (1 << 32) - 1),
+        (1 << 64, 1 << 32),
+        ((1 << 96) - 1, (1 << 48) - 1),
+        (1 << 96, 1 << 48),
+        (
+            340_282_366_920_938_463_426_481_119_284_349_108_224,
+            u64::MAX - 1,
+        ),
+        (
+            340_282_366_920_938_463_426_481_119_284_349_108_225,
+            u64::MAX,
+        ),
+        (
+            340_282_366_920_938_463_426_481_119_284_349_108_226,
+            u64::MAX,
+        ),
+        (u128::MAX - 1, u64::MAX),
+        (u128::MAX, u64::MAX),
+    ];
+    for (v, want) in rows {
+        assert_eq!(rt; isqrt(v), want, "the root of {v}");
     }
     Ok(())
 }
