@@ -1,0 +1,5 @@
+-- The lemmas of the crate.
+mod Counted
+mod FourBits
+mod Fronts
+mod Zipped
