@@ -1,14 +1,15 @@
 -- A point is inside by the edges of its row's band alone: each edge that is counted there, or on which it lies, is in the band.
-use Rattle.std.specs.Prelude.{◌⊎◌, not, ◌&&◌, if◌then◌else◌, count_by, Any, All, ◌↔◌}
+use Rattle.std.specs.Prelude.{◌⊎◌, int_le, not, ◌&&◌, if◌then◌else◌, count_by, Any, All, ◌↔◌}
 use Rattle.std.proofs.Common.{◌≡◌, ℕ, zero, suc, ◌+◌, ◌/◌, ◌%◌, ◌≤◌, Bool, true, false, List, [], ◌∷◌, length, filter, get_or, ℤ, pos, negsuc, neg_ℤ, ◌+ℤ◌, ◌-ℤ◌, ◌*ℤ◌, ◌≤ℤ◌, refl, arith, ap, sym, subst, ◌∙◌, inl, inr, zero-add}
 use Rattle.std.proofs.Math.Nat.{le-div_iff_mul-le, div-mul-le_self, div-zero}
 use Rattle.std.proofs.lemmas.Bool.{false≢true}
 use Rattle.std.proofs.lemmas.Bool.Decides.{nat_tests}
-use Rattle.std.proofs.lemmas.Int.{ints, by_lt_z}
+use Rattle.std.specs.Int.{int_max, int_min}
+use Rattle.std.proofs.lemmas.Int.{ints, by_lt_z, clamps}
 use Rattle.std.proofs.lemmas.List.{get_or_default}
 use Rattle.std.proofs.lemmas.List.Elements.{All-cons, All-head, All-tail, All-filter}
 use Rattle.std.proofs.lemmas.List.Sums.{sum_by-cons}
-use Rattle.integer_algebra.proofs.Order.{cancel_le, cancel_lt, times_neg}
+use Rattle.integer_algebra.proofs.Order.{cancel_le, cancel_lt, times_le, times_neg}
 use Rattle.plane_exact.specs.Plane.{GridPoint, RationalPoint, IsBetween, IsCoordinate, rational}
 use Rattle.plane_exact.specs.declared.point.Seg.{Seg}
 use Rattle.plane_exact.proofs.Stored.{narrow}
@@ -97,6 +98,13 @@ module _ (row : ℤ) (w : RationalPoint) (of : IsOfRow row w) where
   row_below : (c : ℤ) → w.y ≤ℤ (w.over *ℤ c) → row ≤ℤ c
   row_below c above = let some = w.positive in let low = of.low in cancel_le w.over row c (omega (arith, ints)) (omega (arith, ints))
 
+  -- a corner's row is compared with the row in place of the point's height
+  pub same_side : (c : GridPoint) → int_le c.y row ≡ is_at_or_below c w
+  same_side c =
+      by_lt_z row c.y
+      (λ above. let none : ¬ ((w.over *ℤ c.y) ≤ℤ w.y) = (λ below. let no = row_reaches c.y below in omega (arith, ints)) in grind (arith, ints))
+      (λ below. let some = w.positive in let low = of.low in let least = times_le w.over c.y row (omega (arith, ints)) below in grind (arith, ints))
+
   counted_spans : (e : Seg) → is_counted w e ≡ true → Spans row e.a.y e.b.y
   counted_spans e counted = by_rows (is_at_or_below e.a w) (is_at_or_below e.b w) _ refl refl counted
     where
@@ -114,6 +122,9 @@ module _ (row : ℤ) (w : RationalPoint) (of : IsOfRow row w) where
       let below = edge_beyond (pos 0) (neg_ℤ (pos 1)) (neg_ℤ high) a b w (omega (arith, ints)) (omega (arith, ints)) on in
       let turned = times_neg w.over high in
       (row_reaches low (omega (arith, ints)), row_below high (omega (arith, ints)))
+
+  pub on_reaches : (a b : GridPoint) → IsBetween a b w → (int_min a.y b.y ≤ℤ row) × (row ≤ℤ int_max a.y b.y)
+  on_reaches a b on = on_within a b _ _ (omega (arith, ints, clamps)) (omega (arith, ints, clamps)) (omega (arith, ints, clamps)) (omega (arith, ints, clamps)) on
 
   on_spans : (e : Seg) → IsBetween e.a e.b w → Spans row e.a.y e.b.y
   on_spans e on =

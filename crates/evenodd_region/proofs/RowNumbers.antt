@@ -5,7 +5,7 @@ use Rattle.std.proofs.Math.Nat.{div-le_of_le-mul}
 use Rattle.std.proofs.lemmas.Int.{ints}
 use Rattle.integer_algebra.proofs.Ring.{ring, V, K, ◌⊖◌, ◌⊕◌, ◌⊗◌}
 use Rattle.plane_exact.specs.Plane.{RationalPoint}
-use Rattle.plane_exact.proofs.Stored.{narrow, widest, read_is}
+use Rattle.plane_exact.proofs.Stored.{narrow, wide, read_is}
 use Rattle.evenodd_region.specs.Lookup.{IsNearGrid, IsOfRow}
 use Rattle.evenodd_region.specs.Ratios.{rational_of}
 use Rattle.evenodd_region.specs.declared.ratio.RatioPoint.{RatioPoint}
@@ -33,14 +33,14 @@ whole w (negsuc a) o near is over = let some = w.positive in let low = near.low 
 whole w (pos a) (negsuc n) near is over = let some = w.positive in absurd (omega (arith, ints))
 
 -- the same as the code computes it
-pub whole_read : (p : RatioPoint) → AreWhole (rational_of p) (nat_abs (widest (widest p.y +ℤ widest (pos 40960 *ℤ widest p.over))) / nat_abs (widest p.over))
+pub whole_read : (p : RatioPoint) → AreWhole (rational_of p) (nat_abs (wide (wide p.y +ℤ wide (pos 40960 *ℤ wide p.over))) / nat_abs (wide p.over))
 whole_read p =
     let some = p.range.positive in
     let small = p.range.small in
     let low = p.range.up.low in
     let high = p.range.up.high in
-    let above = widest (widest p.y +ℤ widest (pos 40960 *ℤ widest p.over)) in
-    whole (rational_of p) above (widest p.over) p.range.up (omega (arith, ints)) (omega (arith, ints))
+    let above = wide (wide p.y +ℤ wide (pos 40960 *ℤ wide p.over)) in
+    whole (rational_of p) above (wide p.over) p.range.up (omega (arith, ints)) (omega (arith, ints))
 
 pub row_read : (r : ℤ) (w : RationalPoint) → FitsSigned w32 r → IsOfRow r w → IsOfRow (narrow r) w
 row_read r w fits of = subst (λ z. IsOfRow z w) (sym (read_is w32 r r fits refl)) of

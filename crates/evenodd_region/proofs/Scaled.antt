@@ -1,15 +1,15 @@
 -- How an edge lies to a rational point, by the ways from its ends to the point: their cross and dot product, times the square
 -- of the point's denominator.
-use Rattle.std.specs.Prelude.{int_lt}
+use Rattle.std.specs.Prelude.{int_le, int_lt}
 use Rattle.std.proofs.Common.{◌≡◌, ℕ, true, false, ℤ, pos, ◌+ℤ◌, ◌-ℤ◌, ◌*ℤ◌, ◌≤ℤ◌, ◌<ℤ◌, List, [], ◌∷◌, arith, refl, sym, subst, ◌∙◌}
 use Rattle.std.proofs.lemmas.Int.{ints}
 use Rattle.integer_algebra.proofs.Ring.{ring, Term, V, K, ◌⊕◌, ◌⊖◌, ◌⊗◌}
-use Rattle.integer_algebra.proofs.Order.{cancel_lt}
+use Rattle.integer_algebra.proofs.Order.{cancel_lt, times_nonneg, times_nonpos, times_of_negative}
 use Rattle.plane_exact.specs.Plane.{GridPoint, RationalPoint, IsBetween, rational}
 use Rattle.plane_exact.specs.Product.{cross_of, dot_of}
 use Rattle.plane_exact.proofs.Collinear.{on_segment, on_line, between_ends}
 use Rattle.engrave_model.specs.Inside.{is_at_or_below, is_counted}
-use Rattle.evenodd_region.proofs.Counting.{left_of, scaled_test}
+use Rattle.evenodd_region.proofs.Counting.{left_of, same_lt, scaled_test}
 use Rattle.evenodd_region.specs.Ratios.{turn, facing}
 
 -- ---- a point of the edge: all coordinates times the denominator, it is a grid point
@@ -98,3 +98,43 @@ module _ (w : RationalPoint) (a b : GridPoint) where
       let turned = minus_turned w.over along across in
       rw (starts, ends, test)
       (scaled_test w.over (across -ℤ along) (turn w a b) (pos 0) (omega (arith, ints)) (omega (arith, ints)) ∙ left_of _ across along refl)
+
+  -- ---- both ends on one side of the column
+
+  turned_back : turn w b a ≡ pos 0 -ℤ turn w a b
+  turned_back =
+      ring numbers ((V 0 ⊖ at 5) ⊗ (V 1 ⊖ at 4) ⊖ (V 1 ⊖ at 6) ⊗ (V 0 ⊖ at 3)) (K (pos 0) ⊖ ((V 0 ⊖ at 3) ⊗ (V 1 ⊖ at 6) ⊖ (V 1 ⊖ at 4) ⊗ (V 0 ⊖ at 5))) tt
+
+  pub back_lt : int_lt (pos 0) (turn w b a) ≡ int_lt (turn w a b) (pos 0)
+  back_lt = let back = turned_back in same_lt (pos 0) (turn w b a) (turn w a b) (pos 0) (λ l. omega (arith, ints)) (λ l. omega (arith, ints))
+
+-- the signs of the ways from the ends of an edge that rises through a row, and of the turn between them
+module _ (ax ay bx by : ℤ) (starts : pos 0 ≤ℤ ay) (ends : by <ℤ pos 0) where
+  none_turned : pos 0 ≤ℤ ax → pos 0 ≤ℤ bx → (ax *ℤ by -ℤ ay *ℤ bx) ≤ℤ pos 0
+  none_turned a_left b_left =
+      let first = times_nonpos ax by a_left (omega (arith, ints)) in
+      let last = times_nonneg ay bx starts b_left in
+      omega (arith, ints)
+
+  some_turned : ax <ℤ pos 0 → bx <ℤ pos 0 → pos 0 <ℤ (ax *ℤ by -ℤ ay *ℤ bx)
+  some_turned a_right b_right =
+      let first = times_of_negative ax by a_right ends in
+      let last = times_nonpos ay bx starts (omega (arith, ints)) in
+      omega (arith, ints)
+
+none_right : (t : ℤ) → t ≤ℤ pos 0 → false ≡ int_lt (pos 0) t
+none_right t none = grind (arith, ints)
+
+some_right : (t : ℤ) → pos 0 <ℤ t → true ≡ int_lt (pos 0) t
+some_right t some = grind (arith, ints)
+
+module _ (w : RationalPoint) (a b : GridPoint) (starts : is_at_or_below a w ≡ true) (ends : is_at_or_below b w ≡ false) where
+  pub left_side : int_le (w.over *ℤ a.x) w.x ≡ true → int_le (w.over *ℤ b.x) w.x ≡ true → false ≡ int_lt (pos 0) (turn w a b)
+  left_side a_left b_left =
+      none_right _ (none_turned (w.x -ℤ w.over *ℤ a.x) (w.y -ℤ w.over *ℤ a.y) (w.x -ℤ w.over *ℤ b.x) (w.y -ℤ w.over *ℤ b.y)
+      (omega (arith, ints)) (omega (arith, ints)) (omega (arith, ints)) (omega (arith, ints)))
+
+  pub right_side : int_le (w.over *ℤ a.x) w.x ≡ false → int_le (w.over *ℤ b.x) w.x ≡ false → true ≡ int_lt (pos 0) (turn w a b)
+  right_side a_right b_right =
+      some_right _ (some_turned (w.x -ℤ w.over *ℤ a.x) (w.y -ℤ w.over *ℤ a.y) (w.x -ℤ w.over *ℤ b.x) (w.y -ℤ w.over *ℤ b.y)
+      (omega (arith, ints)) (omega (arith, ints)) (omega (arith, ints)) (omega (arith, ints)))

@@ -8,6 +8,10 @@ use Rattle.evenodd_region.specs.declared.ratio.RatioPoint.{RatioPoint}
 abbrev pub rational_of : RatioPoint → RationalPoint
 rational_of p = record { x = p.x; y = p.y; over = p.over; positive = p.range.positive }
 
+-- the point with its coordinates exchanged, so that its column is a row
+abbrev pub exchanged : RationalPoint → RationalPoint
+exchanged w = record { x = w.y; y = w.x; over = w.over; positive = w.positive }
+
 -- from -73,727 * 2^30 to 73,727 * 2^30, as the ways from grid points to points near the grid are, times the denominator
 abbrev pub IsWay : ℤ → Type 0
 IsWay z = IsUpTo (pos 79163763458048) z

@@ -9,7 +9,7 @@ ghost use Rattle.evenodd_region.specs.Ratios.{rational_of};
 use crate::bands::Layout;
 use crate::grid::is_inside;
 use crate::ratio::RatioPoint;
-use crate::sides::{is_edge_counted, is_on_edge};
+use crate::sides::{CellPoint, RowPoint, is_edge_counted, is_on_edge};
 use loops_text::Drawing;
 use plane_exact::{Point, Seg};
 use std::alloc::{AllocError, Global};
@@ -70,8 +70,18 @@ pub fn inside_ratio(rows: &Rows, x: i128, y: i128, den: i128) -> bool
     requires { IsRatio x y den }
     ensures { (loops : List (List GridPoint)) (w : RationalPoint) → AreRowsOf rows.now loops → IsPointOf x y den w → IsTrue result ↔ IsInside (edges_of loops) w }
 {
-    let p = RatioPoint { x, y, over: den };
-    is_inside_at(rows.band_of(row_of(p)), p)
+    let at = RatioPoint {
+        x: x as i64,
+        y: y as i64,
+        over: den as i64,
+    };
+    let row = row_of(at);
+    let column = row_of(at.exchanged());
+    let p = CellPoint {
+        on: RowPoint { at, row },
+        column,
+    };
+    is_inside_at(rows.band_of(row), p)
 }
 
 // The row that the point belongs to.
@@ -90,22 +100,22 @@ fn whole_rows(p: RatioPoint) -> u32
     (above / p.over as u64) as u32
 }
 
-fn is_inside_at(edges: &[Seg], p: RatioPoint) -> bool
-    ensures { IsTrue result ↔ IsInside edges.now (rational_of p) }
+fn is_inside_at(edges: &[Seg], p: CellPoint) -> bool
+    ensures { IsTrue result ↔ IsInside edges.now (rational_of p.on.at) }
 {
-    is_count_odd(edges, p) && !is_on_outline(edges, p)
+    is_count_odd(edges, p) && !is_on_outline(edges, p.on)
 }
 
 // Whether an odd number of edges is counted at the point.
-fn is_count_odd(edges: &[Seg], p: RatioPoint) -> bool
-    ensures { IsTrue result ↔ (count_by (is_counted (rational_of p)) edges.now % 2 ≡ 1) }
+fn is_count_odd(edges: &[Seg], p: CellPoint) -> bool
+    ensures { IsTrue result ↔ (count_by (is_counted (rational_of p.on.at)) edges.now % 2 ≡ 1) }
 {
     edges.iter().filter(|e| is_edge_counted(**e, p)).count() % 2 == 1
 }
 
 // Whether the point lies on an edge.
-fn is_on_outline(edges: &[Seg], p: RatioPoint) -> bool
-    ensures { IsTrue result ↔ IsOnOutline edges.now (rational_of p) }
+fn is_on_outline(edges: &[Seg], p: RowPoint) -> bool
+    ensures { IsTrue result ↔ IsOnOutline edges.now (rational_of p.at) }
 {
     edges.iter().any(|e| is_on_edge(*e, p))
 }

@@ -1,25 +1,41 @@
 // How an edge lies to a rational point near the grid. All products are of ways times the point's denominator, which
-// stay below 2^47; 128 bits hold them.
-ghost use Rattle.std.specs.Prelude.{◌≡◌, ◌↔◌, ◌+ℤ◌, ◌-ℤ◌, ◌*ℤ◌, pos, ◌≤ℤ◌, IsTrue};
+// stay below 2^47; 64 bits hold those, and 128 bits their products.
+ghost use Rattle.std.specs.Prelude.{◌≡◌, ◌↔◌, ◌+ℤ◌, ◌-ℤ◌, ◌*ℤ◌, pos, ◌≤ℤ◌, int_le, int_lt, true, false, IsTrue};
 ghost use Rattle.plane_exact.specs.Plane.{IsBetween, IsCoordinate};
 ghost use Rattle.engrave_model.specs.Inside.{is_at_or_below, is_counted};
-ghost use Rattle.evenodd_region.specs.Lookup.{IsNearGrid};
-ghost use Rattle.evenodd_region.specs.Ratios.{IsWay, rational_of, turn, facing};
+ghost use Rattle.evenodd_region.specs.Lookup.{IsNearGrid, IsOfRow};
+ghost use Rattle.evenodd_region.specs.Ratios.{IsWay, exchanged, rational_of, turn, facing};
 
 use crate::ratio::RatioPoint;
 use plane_exact::{Point, Seg};
 
+// A rational point and the row that it belongs to, which the rows of edges are compared with, without any product.
+#[derive(Clone, Copy)]
+pub(crate) struct RowPoint {
+    pub at: RatioPoint,
+    pub row: i32,
+    ghost of: { IsOfRow row (rational_of at) },
+}
+
+// The same, and the column that the point belongs to: an edge with both ends on one side of it needs no product either.
+#[derive(Clone, Copy)]
+pub(crate) struct CellPoint {
+    pub on: RowPoint,
+    pub column: i32,
+    ghost across: { IsOfRow column (exchanged (rational_of on.at)) },
+}
+
 // The way from a grid point to a rational point, times the denominator.
 #[derive(Clone, Copy)]
 struct Way {
-    x: i128,
-    y: i128,
+    x: i64,
+    y: i64,
     ghost across: { IsWay x },
     ghost up: { IsWay y },
 }
 
 // One coordinate of a way: from `from` to z / over, times `over`.
-fn scaled_difference(z: i128, over: i128, from: i32) -> i128
+fn scaled_difference(z: i64, over: i64, from: i32) -> i64
     requires positive { pos 1 ≤ℤ over }
     requires small { over ≤ℤ pos 1073741824 }
     requires near { IsNearGrid z over }
@@ -27,7 +43,7 @@ fn scaled_difference(z: i128, over: i128, from: i32) -> i128
     ensures value { result ≡ z -ℤ over *ℤ from }
     ensures range { IsWay result }
 {
-    z - over * from as i128
+    z - over * from as i64
 }
 
 fn way_to(p: RatioPoint, from: Point) -> Way
@@ -40,17 +56,24 @@ fn way_to(p: RatioPoint, from: Point) -> Way
     }
 }
 
+// In 128 bits: two ways have 47 bits each.
+fn product(u: i64, v: i64) -> i128
+    ensures { result ≡ u *ℤ v }
+{
+    u as i128 * v as i128
+}
+
 impl Way {
     fn cross(self, other: Way) -> i128
         ensures { result ≡ self.x *ℤ other.y -ℤ self.y *ℤ other.x }
     {
-        self.x * other.y - self.y * other.x
+        product(self.x, other.y) - product(self.y, other.x)
     }
 
     fn dot(self, other: Way) -> i128
         ensures { result ≡ self.x *ℤ other.x +ℤ self.y *ℤ other.y }
     {
-        self.x * other.x + self.y * other.y
+        product(self.x, other.x) + product(self.y, other.y)
     }
 }
 
@@ -68,28 +91,58 @@ fn facing(p: RatioPoint, a: Point, b: Point) -> i128
     way_to(p, a).dot(way_to(p, b))
 }
 
-// Whether the point is a point of the edge.
-pub(crate) fn is_on_edge(e: Seg, p: RatioPoint) -> bool
-    ensures { IsTrue result ↔ IsBetween e.a e.b (rational_of p) }
+// Whether the row of the point is among those from `a` to `b`, as it is where the point lies between them.
+fn reach_row(a: Point, b: Point, p: RowPoint) -> bool
+    ensures { IsBetween a b (rational_of p.at) → IsTrue result }
 {
-    turn(p, e.a, e.b) == 0 && facing(p, e.a, e.b) <= 0
+    a.y().min(b.y()) <= p.row && p.row <= a.y().max(b.y())
+}
+
+// Whether the point is a point of the edge. Most edges of a band are told by their rows.
+pub(crate) fn is_on_edge(e: Seg, p: RowPoint) -> bool
+    ensures { IsTrue result ↔ IsBetween e.a e.b (rational_of p.at) }
+{
+    if !reach_row(e.a, e.b, p) {
+        return false;
+    }
+    turn(p.at, e.a, e.b) == 0 && facing(p.at, e.a, e.b) <= 0
 }
 
 // Whether `corner` isn't above the row of `p`.
-fn is_at_or_below(corner: Point, p: RatioPoint) -> bool
-    ensures { result ≡ is_at_or_below corner (rational_of p) }
+fn is_at_or_below(corner: Point, p: RowPoint) -> bool
+    ensures { result ≡ is_at_or_below corner (rational_of p.at) }
 {
-    way_to(p, corner).y >= 0
+    corner.y() <= p.row
+}
+
+// Whether `corner` isn't to the right of the column of `p`.
+fn is_at_or_left(corner: Point, p: CellPoint) -> bool
+    ensures { result ≡ int_le (p.on.at.over *ℤ corner.x) p.on.at.x }
+{
+    corner.x() <= p.column
+}
+
+// Whether an edge that rises from `a` to `b` passes the row of the point strictly to the right of it. Where both ends are on one
+// side, so is the crossing.
+fn rises_right_of(a: Point, b: Point, p: CellPoint) -> bool
+    requires starts { is_at_or_below a (rational_of p.on.at) ≡ true }
+    requires ends { is_at_or_below b (rational_of p.on.at) ≡ false }
+    ensures { result ≡ int_lt (pos 0) (turn (rational_of p.on.at) a b) }
+{
+    match (is_at_or_left(a, p), is_at_or_left(b, p)) {
+        (true, true) => false,
+        (false, false) => true,
+        _ => turn(p.on.at, a, b) > 0,
+    }
 }
 
 // Whether the edge passes the row of the point strictly to the right of it.
-pub(crate) fn is_edge_counted(e: Seg, p: RatioPoint) -> bool
-    ensures { result ≡ is_counted (rational_of p) e }
+pub(crate) fn is_edge_counted(e: Seg, p: CellPoint) -> bool
+    ensures { result ≡ is_counted (rational_of p.on.at) e }
 {
-    let turn = turn(p, e.a, e.b);
-    match (is_at_or_below(e.a, p), is_at_or_below(e.b, p)) {
-        (true, false) => turn > 0,
-        (false, true) => turn < 0,
+    match (is_at_or_below(e.a, p.on), is_at_or_below(e.b, p.on)) {
+        (true, false) => rises_right_of(e.a, e.b, p),
+        (false, true) => rises_right_of(e.b, e.a, p),
         _ => false,
     }
 }
