@@ -1,6 +1,11 @@
 -- The lemmas of the crate.
+pub mod Ahead
+pub mod Aside
 pub mod Bisection
 pub mod Boxes
+pub mod Crossings
+pub mod Deepening
+pub mod Leasts
 pub mod Mets
 pub mod Safety
 pub mod Exact

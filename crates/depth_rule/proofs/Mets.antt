@@ -1,13 +1,32 @@
--- What a clear move meets.
-use Rattle.std.proofs.Common.{◌≡◌, List, refl, inl, inr}
+-- What a move meets, by the edges' numbers, and what a clear move meets.
+use Rattle.std.specs.Prelude.{slice_index_or, All, IfSome, IfNone}
+use Rattle.std.proofs.Common.{◌≡◌, ℕ, List, [], Option, None, Some, refl, inl, inr}
 use Rattle.plane_exact.specs.Cone.{Cone}
 use Rattle.plane_exact.specs.Moves.{IsDeep}
 use Rattle.plane_exact.specs.declared.moves.Move.{Move}
 use Rattle.plane_exact.specs.declared.point.Seg.{Seg}
-use Rattle.swept_move.specs.Clear.{IsClear}
-use Rattle.depth_rule.specs.Met.{IsMet}
+use Rattle.swept_move.specs.Clear.{IsClear, PassesEdge}
+use Rattle.depth_rule.specs.Met.{IsFirstMet, IsMet}
+use Rattle.depth_rule.proofs.Leasts.{IsLeastBad, IsLeastSoFar, least_none, least_some}
 use Rattle.depth_rule.specs.declared.met.Met.{Met}
 use Rattle.depth_rule.specs.declared.met.Met.TheVariants.{Edge, Outside, Nothing}
+
+module _ (edges : List Seg) (cone : Cone) (mv : Move) where
+  -- the move passes the tests against the edge of this number
+  abbrev pub IsPassedAt : ℕ → Type 0
+  IsPassedAt k = (d : Seg) → PassesEdge cone mv (slice_index_or edges k d)
+
+  -- and not against the edge of this one
+  abbrev pub IsMetAt : ℕ → Type 0
+  IsMetAt k = (d : Seg) → ¬ PassesEdge cone mv (slice_index_or edges k d)
+
+  first_is_met : (e : ℕ) → IsLeastBad IsPassedAt IsMetAt edges e → IsFirstMet edges cone mv e
+  first_is_met e least = record { there = least.there; fails = least.bad; before = λ k d below. least.before k below d }
+
+  pub first_of_all : (least : Option ℕ) (left : List ℕ) → left ≡ [] → IsLeastSoFar IsPassedAt IsMetAt edges least left
+      → IfSome least (IsFirstMet edges cone mv) × IfNone least (All (PassesEdge cone mv) edges)
+  first_of_all None left over far = (tt, λ k d there. least_none IsPassedAt IsMetAt edges left over far k there d)
+  first_of_all (Some e) left over far = (first_is_met e (least_some IsPassedAt IsMetAt edges e left over far), tt)
 
 -- a clear move that goes below the surface meets nothing
 pub met_is_nothing : (edges : List Seg) (cone : Cone) (mv : Move) (met : Met) → IsDeep mv → IsMet edges cone mv met → IsClear edges cone mv → met ≡ Nothing

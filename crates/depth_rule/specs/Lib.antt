@@ -1,3 +1,8 @@
 -- The definitions of the crate.
+pub mod Around
+pub mod Crossing
+pub mod Greatest
+pub mod Kept
 pub mod Law
+pub mod Least
 pub mod Met

@@ -5,10 +5,13 @@
 //! `law::safe_move_law`: a clear move is safe, and a safe one that isn't too deep is clear.
 #![tactic(auto)]
 
+mod around;
 mod bounds;
 mod clear;
+mod crossing;
 mod depth;
 pub mod law;
+mod least;
 mod met;
 mod scene;
 mod steps;

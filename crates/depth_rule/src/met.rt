@@ -1,12 +1,14 @@
 // What a move meets in a drawing: the first edge against which a test fails, or the outside.
-ghost use Rattle.std.specs.Prelude.{◌≤◌, length, IfSome, IfNone, All};
+ghost use Rattle.std.specs.Prelude.{◌≡◌, ◌⊎◌, ◌↔◌, ℕ, IfSome, IfNone, All, IsTrue};
 ghost use Rattle.plane_exact.specs.Moves.{IsDeep, IsTooDeep};
 ghost use Rattle.swept_move.specs.Clear.{PassesEdge};
 ghost use Rattle.engrave_model.specs.Drawing.{edges_of};
+ghost use Rattle.depth_rule.specs.Least.{AtMost};
 ghost use Rattle.depth_rule.specs.Met.{IsFirstMet, IsMet};
 
+use crate::around::move_box;
+use crate::least::is_at_most;
 use crate::scene::Scene;
-use engrave_model::MOST_EDGES;
 use plane_exact::{Bit, Move, Seg};
 use swept_move::clear_of;
 
@@ -28,26 +30,38 @@ pub fn first_met(scene: &Scene, bit: &Bit, mv: &Move) -> Met
     requires deep { IsDeep mv.now }
     ensures { IsMet (edges_of scene.now) bit.now mv.now result }
 {
-    let edges = scene.drawing().all_edges();
-    match first_edge_met(edges, bit, mv) {
+    match first_edge_met(scene, bit, mv) {
         Some(e) => Met::Edge(e),
         None if scene.holds(mv.first_deep_end()) => Met::Nothing,
         None => Met::Outside,
     }
 }
 
-/// The number of the least edge against which a test fails.
-fn first_edge_met(edges: &[Seg], bit: &Bit, mv: &Move) -> Option<u32>
+/// The number of the least edge against which a test fails, by the edges near the move alone, which come in any order.
+fn first_edge_met(scene: &Scene, bit: &Bit, mv: &Move) -> Option<u32>
     requires narrow { ¬ IsTooDeep bit.now mv.now }
     requires deep { IsDeep mv.now }
-    requires few { length edges.now ≤ MOST_EDGES }
-    ensures met { IfSome result (IsFirstMet edges.now bit.now mv.now) }
-    ensures none { IfNone result (All (PassesEdge bit.now mv.now) edges.now) }
+    ensures met { IfSome result (IsFirstMet (edges_of scene.now) bit.now mv.now) }
+    ensures none { IfNone result (All (PassesEdge bit.now mv.now) (edges_of scene.now)) }
 {
-    for (e, edge) in edges.iter().enumerate() {
-        if !clear_of(mv, bit, *edge) {
-            return Some(e as u32);
-        }
+    let mut least = None;
+    for e in scene.near(move_box(mv, bit)) {
+        least = lesser_met(least, e, &scene.drawing().edge(e), bit, mv);
     }
-    None
+    least
+}
+
+/// The number of the edge where it is below the least so far and a test against it fails, else the least so far.
+fn lesser_met(least: Option<u32>, e: u32, edge: &Seg, bit: &Bit, mv: &Move) -> Option<u32>
+    requires narrow { ¬ IsTooDeep bit.now mv.now }
+    requires deep { IsDeep mv.now }
+    ensures keeps { (k : ℕ) → AtMost least k → AtMost result k }
+    ensures judged { PassesEdge bit.now mv.now edge.now ⊎ AtMost result e }
+    ensures found { (result ≡ least) ⊎ ((result ≡ Some e) × ¬ PassesEdge bit.now mv.now edge.now) }
+{
+    if is_at_most(least, e) || clear_of(mv, bit, *edge) {
+        least
+    } else {
+        Some(e)
+    }
 }

@@ -1,8 +1,10 @@
 // A drawing made ready to be asked: which points it holds, and its edges by number.
 use crate::bounds::{Bounds, bounds_of_starts};
-use evenodd_region::{Rows, inside, inside_ratio};
+use evenodd_region::{Rows, inside, inside_ratio, row_inside};
+use lane_kernels::Rect;
 use loops_text::Drawing;
 use plane_exact::{Point, Spot};
+use segment_grid::{Grid, Near};
 use std::alloc::{AllocError, Global};
 use std::marker::Model;
 
@@ -11,35 +13,43 @@ use std::marker::Model;
 pub struct Scene {
     drawing: Drawing,
     rows: Rows,
+    grid: Grid,
 }
 
 impl Model for Scene {
     ghost use Rattle.std.specs.Prelude.{List};
     ghost use Rattle.plane_exact.specs.Plane.{GridPoint};
-    ghost use Rattle.evenodd_region.specs.Lookup.{AreRowsOf};
+    ghost use Rattle.depth_rule.specs.Kept.{IsKept};
 
     ghost Value = { List (List GridPoint) };
 
     ghost view = { λ s. s.drawing };
 
-    ghost invariant = { λ s. AreRowsOf s.rows s.drawing };
+    ghost invariant = { λ s. IsKept s.rows s.grid s.drawing };
 }
 
 impl Scene {
-    ghost use Rattle.std.specs.Prelude.{◌≡◌, ◌↔◌, [], IfOk, IsTrue, MatchOption};
-    ghost use Rattle.plane_exact.specs.Plane.{RationalPoint, rational};
+    ghost use Rattle.std.specs.Prelude.{◌≡◌, ◌↔◌, ◌≤◌, ◌+◌, ◌-◌, ◌*◌, ◌/◌, ◌+ℤ◌, pos, [], length, IfOk, IsTrue, MatchOption};
+    ghost use Rattle.plane_exact.specs.Plane.{IsCoordinate, RationalPoint, rational};
     ghost use Rattle.engrave_model.specs.Drawing.{edges_of};
     ghost use Rattle.engrave_model.specs.Inside.{IsInside};
     ghost use Rattle.engrave_model.specs.Removal.{from_tenths};
     ghost use Rattle.evenodd_region.specs.Bounds.{IsBoxOf, points_of};
     ghost use Rattle.evenodd_region.specs.Lookup.{IsPointOf, IsRatio};
+    ghost use Rattle.evenodd_region.specs.RowBits.{IsRowOf};
+    ghost use Rattle.segment_grid.specs.Near.{AreNear};
 
     /// The scene of a drawing. It may answer that memory ran out.
     pub fn new(alloc: Global, drawing: Drawing) -> Result<Scene, AllocError>
         ensures { IfOk result (λ scene. scene ≡ drawing) }
     {
         let rows = Rows::build(alloc, &drawing)?;
-        Ok(Scene { drawing, rows })
+        let grid = Grid::build(alloc, &drawing)?;
+        Ok(Scene {
+            drawing,
+            rows,
+            grid,
+        })
     }
 
     /// The drawing, whose edges keep their numbers.
@@ -47,6 +57,13 @@ impl Scene {
         ensures { result.now ≡ self.now }
     {
         &self.drawing
+    }
+
+    /// The numbers of the edges whose boxes meet `q`, each once, in any order. It takes no memory.
+    pub fn near(&self, q: Rect) -> Near<'_>
+        ensures { AreNear (edges_of self.now) q result }
+    {
+        self.grid.near(&self.drawing, q)
     }
 
     /// The least box that holds all points of the drawing, or None where it has none.
@@ -70,6 +87,21 @@ impl Scene {
         ensures { (w : RationalPoint) → IsPointOf x y den w → IsTrue result ↔ IsInside (edges_of self.now) w }
     {
         inside_ratio(&self.rows, x, y, den)
+    }
+
+    /// Which points of a row the drawing holds. The row has `count` points, from (x0, y) to the right at this pitch, in grid
+    /// units, and there are as many words as so many bits need. Bit i % 64 of the word i / 64, the lowest first, is 1 where the
+    /// point i is inside; the bits from `count` on are 0.
+    pub fn row_inside(&self, y: i32, x0: i32, pitch: u32, count: u32, bits: &mut [u64])
+        requires row { IsCoordinate y }
+        requires first { IsCoordinate x0 }
+        requires last { IsCoordinate (x0 +ℤ pos ((count - 1) * pitch)) }
+        requires some { 1 ≤ count }
+        requires apart { 1 ≤ pitch }
+        requires words { length bits.old ≡ (count + 63) / 64 }
+        ensures { IsRowOf (edges_of self.now) y x0 pitch count bits.new }
+    {
+        row_inside(&self.rows, y, x0, pitch, count, bits);
     }
 
     /// Whether the drawing holds the place of the spot.

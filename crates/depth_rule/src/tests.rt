@@ -1,4 +1,4 @@
-// A plate and a lug beside it: their bounding box, and moves over them.
+// A plate and a lug beside it: their bounding box, rows of points, and moves over them; and the first edges that cross.
 use crate::clear::is_clear;
 use crate::scene::Scene;
 use loops_text::Drawing;
@@ -10,20 +10,22 @@ const PLATE: [(i64, i64); 4] = [(0, 0), (90, 0), (90, 70), (0, 70)];
 
 const LUG: [(i64, i64); 3] = [(95, -20), (99, 10), (91, 10)];
 
+// The scene of some loops.
+fn scene_of(alloc: Global, loops: &[&[(i64, i64)]]) -> Result<Scene, Fail> {
+    let mut drawing = Drawing::empty(alloc);
+    for corners in loops {
+        let mut points = Vec::new(alloc);
+        for (x, y) in *corners {
+            points.push(Point::new(*x, *y).ok_or("a corner")?)?;
+        }
+        drawing.push_loop(&points)?;
+    }
+    Ok(Scene::new(alloc, drawing)?)
+}
+
 // The plate, and the lug beside it.
 fn plate(alloc: Global) -> Result<Scene, Fail> {
-    let mut drawing = Drawing::empty(alloc);
-    let mut points = Vec::new(alloc);
-    for (x, y) in PLATE {
-        points.push(Point::new(x, y).ok_or("a corner")?)?;
-    }
-    drawing.push_loop(&points).ok().ok_or("the plate")?;
-    let mut points = Vec::new(alloc);
-    for (x, y) in LUG {
-        points.push(Point::new(x, y).ok_or("a corner")?)?;
-    }
-    drawing.push_loop(&points).ok().ok_or("the lug")?;
-    Ok(Scene::new(alloc, drawing)?)
+    scene_of(alloc, &[&PLATE, &LUG])
 }
 
 // The spot over (x, 350) at the height h, in tenths of a grid unit.
@@ -61,6 +63,57 @@ fn a_move_is_clear_until_the_bit_touches_an_edge(rt: HostRuntime) -> Result<(), 
             to: spot(to, h)?,
         };
         assert_eq!(rt; is_clear(&scene, &bit, &mv), want, "to {to} at {h}");
+    }
+    Ok(())
+}
+
+#[test]
+fn rows_of_points_are_marked_where_they_are_inside(rt: HostRuntime) -> Result<(), Fail> {
+    let scene = plate(rt.alloc())?;
+    let mut bits = [0; 2];
+    // The points from -5 to 65 in steps of 1: those from 1 on are inside.
+    scene.row_inside(35, -5, 1, 71, &mut bits);
+    assert_eq!(rt; bits, [u64::MAX << 6, 127]);
+    // Over the plate's right side at 90 into the lug.
+    scene.row_inside(5, 86, 2, 7, &mut bits[..1]);
+    assert_eq!(rt; bits, [0b111_1011, 127]);
+    Ok(())
+}
+
+#[test]
+fn the_first_edges_that_cross_are_found(rt: HostRuntime) -> Result<(), Fail> {
+    let square: &[(i64, i64)] = &[(0, 0), (100, 0), (100, 100), (0, 100)];
+    for (loops, want) in [
+        (&[square] as &[&[(i64, i64)]], None),
+        (&[], None),
+        // There and back on one line.
+        (&[&[(0, 0), (1, 0)]], Some((0, 1))),
+        // The corners touch, and nothing else.
+        (
+            &[square, &[(100, 100), (200, 100), (200, 200), (100, 200)]],
+            None,
+        ),
+        // A corner on the right side touches it.
+        (&[square, &[(100, 50), (150, 20), (150, 80)]], Some((1, 4))),
+        // Through the right side, and then through the top.
+        (&[square, &[(50, 50), (150, 50), (150, 150)]], Some((1, 4))),
+        (
+            &[
+                &[(0, 0), (200, 0), (200, 200), (0, 200)],
+                &[(100, 100), (300, 100), (300, 300), (100, 300)],
+            ],
+            Some((1, 4)),
+        ),
+        // A bow tie.
+        (
+            &[&[(0, 0), (10, 10), (10, 0), (0, 10)], square],
+            Some((0, 2)),
+        ),
+        // Along a part of the top.
+        (&[square, &[(20, 100), (60, 100), (40, 120)]], Some((2, 4))),
+    ] {
+        let scene = scene_of(rt.alloc(), loops)?;
+        assert_eq!(rt; scene.first_crossing(), want, "{loops:?}");
     }
     Ok(())
 }

@@ -1,15 +1,10 @@
--- The quick test: how far the bit stays from an edge that lies beside the path.
-use mir.Syntax.{w64}
-use Rattle.std.proofs.Common.{◌≡◌, ◌↔◌, inl, inr, ℤ, pos, ◌+ℤ◌, ◌-ℤ◌, ◌*ℤ◌, ◌≤ℤ◌, neg_ℤ, [], ◌∷◌, IsTrue, int_le, arith, subst}
+-- How far the bit stays from an edge that lies beside the path.
+use Rattle.std.proofs.Common.{inl, inr, ℤ, pos, ◌+ℤ◌, ◌-ℤ◌, ◌*ℤ◌, ◌≤ℤ◌, neg_ℤ, [], ◌∷◌, arith}
 use Rattle.std.proofs.lemmas.Int.{ints, by_lt_z}
 use Rattle.integer_algebra.proofs.Ring.{ring, V, M, ◌⊕◌, ◌⊖◌, ◌⊗◌}
 use Rattle.integer_algebra.proofs.Order.{square_nonneg, square_le, times_nonneg, times_le}
-use Rattle.integer_algebra.specs.Ranges.{IsUpTo}
-use Rattle.plane_exact.specs.Heights.{IsFineCoordinate}
-use Rattle.plane_exact.proofs.Wide.{tested}
-use Rattle.swept_move.specs.Beside.{AreApart, AreBelow, AreBeside, IsSpan}
+use Rattle.swept_move.specs.Beside.{AreBelow, AreBeside}
 use Rattle.swept_move.proofs.Hits.{away}
-use Rattle.swept_move.proofs.Widths.{held}
 
 -- a moment from the start to the finish, and a point of the edge from a to b
 pub record IsPlace (S T N : ℤ) : Type 0 where
@@ -94,64 +89,3 @@ long_way r f g a b some beside S T N y place =
       | inl below ↦ long_back r N _ y wide (all_before r f g a b S T N below place)
       | inr above ↦ long_on r N _ y wide (all_behind r f g a b S T N above place)
     ]
-
--- ---- a gap between two ranges is a gap between all their ends
-
-module _ (r low high bottom top f g a b : ℤ) (path : IsSpan low high f g) (edge : IsSpan bottom top a b) where
-  below_all : (high +ℤ r) ≤ℤ bottom → AreBelow r f g a b
-  below_all gap =
-      let f_high = path.a_high in
-      let g_high = path.b_high in
-      let a_low = edge.a_low in
-      let b_low = edge.b_low in
-      record { a_c = omega (arith, ints); a_d = omega (arith, ints); b_c = omega (arith, ints); b_d = omega (arith, ints) }
-
-  gap_below : AreBelow r f g a b → (high +ℤ r) ≤ℤ bottom
-  gap_below below =
-      let f_a = below.a_c in
-      let f_b = below.a_d in
-      let g_a = below.b_c in
-      let g_b = below.b_d in
-      let under_a = path.highest (a -ℤ r) (omega (arith, ints)) (omega (arith, ints)) in
-      let under_b = path.highest (b -ℤ r) (omega (arith, ints)) (omega (arith, ints)) in
-      edge.lowest (high +ℤ r) (omega (arith, ints)) (omega (arith, ints))
-
-pub apart_is_beside : (r low high bottom top f g a b : ℤ) → IsSpan low high f g → IsSpan bottom top a b → AreApart r low high bottom top ↔ AreBeside r f g a b
-apart_is_beside r low high bottom top f g a b path edge = (
-  (λ apart. elim apart [
-    | inl gap ↦ inl (below_all r low high bottom top f g a b path edge gap)
-    | inr gap ↦ inr (below_all r bottom top low high a b f g edge path gap)
-  ]),
-  (λ beside. elim beside [
-    | inl below ↦ inl (gap_below r low high bottom top f g a b path edge below)
-    | inr above ↦ inr (gap_below r bottom top low high a b f g edge path above)
-  ]),
-)
-
--- ---- the ranges, as the code has them
-
--- the code's test of a gap between coordinates
-pub gap_test : (h l r : ℤ) → IsFineCoordinate h → IsFineCoordinate l → IsUpTo (pos 81910) r → IsTrue (int_le (held w64 (held w64 h +ℤ held w64 r)) (held w64 l)) ↔ ((h +ℤ r) ≤ℤ l)
-gap_test h l r on_h on_l on_r =
-    let h_low = on_h.low in
-    let h_high = on_h.high in
-    let l_low = on_l.low in
-    let l_high = on_l.high in
-    let r_low = on_r.low in
-    let r_high = on_r.high in
-    let end : held w64 (held w64 h +ℤ held w64 r) ≡ h +ℤ r = omega (arith, ints) in
-    let start : held w64 l ≡ l = omega (arith, ints) in
-    tested _ _ _ _ end start
-
--- what tests that the ranges of path and edge are apart tests that the ends are beside each other
-pub apart_test : {T : Type 0} {x low high bottom top p q s t : ℤ} (r f g a b : ℤ) → IsSpan low high p q → IsSpan bottom top s t → T ↔ AreApart x low high bottom top → x ≡ r → p ≡ f → q ≡ g → s ≡ a → t ≡ b → T ↔ AreBeside r f g a b
-apart_test {T = T} {x = x} {low = low} {high = high} {bottom = bottom} {top = top} {p = p} {q = q} {s = s} {t = t} r f g a b path edge test er ef eg ea eb =
-    let path' = subst (λ z. IsSpan low high f z) eg (subst (λ z. IsSpan low high z q) ef path) in
-    let edge' = subst (λ z. IsSpan bottom top a z) eb (subst (λ z. IsSpan bottom top z t) ea edge) in
-    let test' = subst (λ z. T ↔ AreApart z low high bottom top) er test in
-    let same = apart_is_beside r low high bottom top f g a b path' edge' in
-    ((λ t. same.0 (test'.0 t)), (λ h. test'.1 (same.1 h)))
-
--- a coordinate that a call answered
-pub known : {r z : ℤ} → IsFineCoordinate r → r ≡ z → held w64 r ≡ z
-known on e = let low = on.low in let high = on.high in omega (arith, ints)

@@ -19,6 +19,7 @@ pub mod Successive
 -- an edge beside a motion
 pub mod Boxes
 pub mod Aside
+pub mod Reaches
 -- moves in tenths, against the edges of a drawing
 pub mod Moves
 -- the code's numbers

@@ -1,11 +1,11 @@
 -- Moves in tenths of a grid unit against the edges of a drawing: the laws of motions between places, with the edge tenfold.
-use Rattle.std.proofs.Common.{◌≡◌, ◌≤◌, ◌*◌, inl, inr, true, nat_lt, if◌then◌else◌, ℕ, suc, ℤ, pos, negsuc, ◌+ℤ◌, ◌-ℤ◌, ◌*ℤ◌, List, [], ◌∷◌, get_or, arith, ap, subst, sym, ◌∙◌}
+use Rattle.std.proofs.Common.{◌≡◌, ◌≤◌, ◌<◌, ◌*◌, inl, inr, true, nat_lt, if◌then◌else◌, ℕ, zero, suc, ℤ, pos, negsuc, ◌+ℤ◌, ◌-ℤ◌, ◌*ℤ◌, List, [], ◌∷◌, get_or, arith, ap, subst, sym, ◌∙◌}
 use Rattle.std.proofs.lemmas.Int.{ints, by_lt_z}
-use Rattle.integer_algebra.proofs.Order.{times_lt}
+use Rattle.integer_algebra.proofs.Order.{times_lt, times_pos}
 use Rattle.integer_algebra.proofs.Ring.{ring, V, K, ◌⊕◌, ◌⊖◌, ◌⊗◌}
 use Rattle.plane_exact.specs.Cone.{Cone}
 use Rattle.plane_exact.specs.Distance.{IsCloser}
-use Rattle.plane_exact.specs.Moves.{IsDeep, IsTooDeep, IsTooWide, depth_of, first_deep}
+use Rattle.plane_exact.specs.Moves.{IsDeep, IsTooWide, depth_of, first_deep}
 use Rattle.plane_exact.specs.Plane.{GridPoint, RationalPoint, IsBetween, rational}
 use Rattle.plane_exact.specs.declared.moves.Move.{Move}
 use Rattle.plane_exact.specs.declared.point.Seg.{Seg}
@@ -14,7 +14,8 @@ use Rattle.engrave_model.specs.Inside.{IsInside}
 use Rattle.engrave_model.specs.Removal.{IsRemoved, Moment, RemovesSome, from_tenths, place_at, tenfold}
 use Rattle.swept_move.specs.Clear.{IsClear, IsClearDeep, PassesEdge, tenfold_edge}
 use Rattle.swept_move.specs.Law.{ClearRunLaw, CutLaw, ExactLaw, SweptLaw, at_height, level_move}
-use Rattle.swept_move.specs.Motion.{IsBesideBetween, IsOnWay, sweep_between}
+use Rattle.swept_move.specs.Motion.{IsOnWay, sweep_between}
+use Rattle.swept_move.specs.Reach.{IsReach, ReachLaw}
 use Rattle.swept_move.specs.Sweep.{IsReached, IsTouched}
 use Rattle.swept_move.proofs.Aside.{beside_is_clear}
 use Rattle.swept_move.proofs.Motions.{depth_at, spares_edge, touches_or_keeps_off}
@@ -110,17 +111,28 @@ passes_exactly cone mv e slope deep = (
 
 -- ---- an edge beside a move
 
-narrow_at : (cone : Cone) (z : ℕ) → ¬ IsTooWide cone z → cone.sn * z ≤ cone.sd * (10 * cone.rmax)
+-- the bit is no wider than its greatest radius, in tenths
+pub narrow_at : (cone : Cone) (z : ℕ) → ¬ IsTooWide cone z → cone.sn * z ≤ cone.sd * (10 * cone.rmax)
 narrow_at cone z narrow =
     let e = ring (pos cone.sd ∷ pos cone.rmax ∷ []) (V 0 ⊗ (K (pos 10) ⊗ V 1)) (K (pos 10) ⊗ (V 0 ⊗ V 1)) tt in
     by_lt_z (pos 10 *ℤ (pos cone.sd *ℤ pos cone.rmax)) (pos cone.sn *ℤ pos z) (λ wide. absurd (narrow (omega (arith, ints)))) (λ least. omega (arith, ints))
 
-pub beside_passes : (cone : Cone) (mv : Move) (e : Seg) → 1 ≤ cone.rmax → ¬ IsTooDeep cone mv → IsDeep mv
-    → IsBesideBetween (pos (10 * cone.rmax)) mv.from mv.to (tenfold_edge e) → PassesEdge cone mv e
+-- a bit of some width that goes below the surface reaches some way
+reach_some : (sn sd r z : ℕ) → 1 ≤ sn → 0 < z → sn * z ≤ sd * r → 1 ≤ r
+reach_some sn sd zero z some deep narrow =
+    let p = times_pos (pos sn) (pos z) (omega (arith, ints)) (omega (arith, ints)) in
+    let none : sd * 0 ≡ 0 = omega arith in
+    absurd (omega (arith, ints))
+reach_some sn sd (suc r) z some deep narrow = omega arith
+
+pub deep_reaches : (cone : Cone) (mv : Move) (r : ℕ) → 1 ≤ cone.sn → IsReach cone mv r → IsDeep mv → 1 ≤ r
+deep_reaches cone mv r steep reach (inl start) = reach_some cone.sn cone.sd r (depth_of mv.from.h) steep start reach.start
+deep_reaches cone mv r steep reach (inr finish) = reach_some cone.sn cone.sd r (depth_of mv.to.h) steep finish reach.finish
+
+pub reach_passes : ReachLaw
 unfolding PassesEdge
-beside_passes cone mv e some narrow deep beside =
-    beside_is_clear cone (10 * cone.rmax) mv.from mv.to (tenfold_edge e) (omega (arith, ints)) deep
-    (narrow_at cone (depth_of mv.from.h) (λ wide. narrow (inl wide))) (narrow_at cone (depth_of mv.to.h) (λ wide. narrow (inr wide))) beside
+reach_passes cone mv r e some deep reach beside =
+    beside_is_clear cone r mv.from mv.to (tenfold_edge e) some deep reach.start reach.finish beside
 
 -- ---- moves that follow each other on a line, at one height
 

@@ -5,4 +5,5 @@ pub mod Law
 pub mod Motion
 pub mod Part
 pub mod Range
+pub mod Reach
 pub mod Sweep

@@ -3,7 +3,6 @@ ghost use Rattle.std.specs.Prelude.{◌↔◌, IsTrue};
 ghost use Rattle.plane_exact.specs.Moves.{IsDeep, IsTooDeep};
 ghost use Rattle.swept_move.specs.Clear.{PassesEdge};
 
-use crate::beside::is_beside;
 use crate::deep_move::DeepMove;
 use plane_exact::{Bit, Move, Seg};
 
@@ -14,5 +13,5 @@ pub fn clear_of(mv: &Move, bit: &Bit, s: Seg) -> bool
     requires deep { IsDeep mv.now }
     ensures { IsTrue result ↔ PassesEdge bit.now mv.now s }
 {
-    is_beside(mv, bit, &s) || DeepMove::new(mv.from, mv.to).passes(bit, &s)
+    DeepMove::new(mv.from, mv.to).passes(bit, &s)
 }

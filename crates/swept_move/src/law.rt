@@ -1,6 +1,7 @@
 // What the tests of a move against an edge say of all moments between, and what those of its parts say of the whole.
 ghost use Rattle.swept_move.specs.Law.{ClearRunLaw, CutLaw, ExactLaw, SweptLaw};
 ghost use Rattle.swept_move.specs.Motion.{BesideLaw, DeepPartLaw, JoinLaw, MotionConverseLaw, MotionLaw, RunLaw, SuccessiveLaw};
+ghost use Rattle.swept_move.specs.Reach.{ReachLaw};
 ghost use Rattle.swept_move.specs.Sweep.{SweepConverseLaw, SweepLaw};
 
 /// A move that passes the tests against an edge removes no point of the edge, at any moment. The bit may have any slope, the
@@ -51,6 +52,11 @@ pub fn motion_converse_law()
 /// A motion whose places are at least the bit's greatest radius beside both ends of an edge passes the tests against it.
 pub fn beside_law()
     ensures { BesideLaw }
+{}
+
+/// So a move passes the tests against each edge that lies farther beside its path than it may cut.
+pub fn reach_law()
+    ensures { ReachLaw }
 {}
 
 /// A run of equal steps keeps off an edge exactly where the one motion from its first place to its last does, for a bit of some

@@ -4,7 +4,6 @@
 //! surface passes it just where no moment of it removes a point of the edge.
 #![tactic(auto)]
 
-mod beside;
 mod clear;
 mod clearance;
 mod coefficients;
@@ -13,8 +12,10 @@ mod disc;
 mod distance;
 pub mod law;
 mod moments;
+mod reach;
 mod sides;
 mod way;
 
 pub use clear::clear_of;
 pub use disc::is_edge_clear;
+pub use reach::reach_of;

@@ -1,6 +1,6 @@
 // Ways between points in tenths of a grid unit, and their products.
 ghost use Rattle.std.specs.Prelude.{◌≡◌, ◌+ℤ◌, ◌-ℤ◌, ◌*ℤ◌};
-ghost use Rattle.plane_exact.specs.Heights.{IsFineCoordinate, IsHeight};
+ghost use Rattle.plane_exact.specs.Heights.{IsHeight};
 ghost use Rattle.swept_move.specs.Clear.{tenfold};
 ghost use Rattle.swept_move.specs.Range.{IsFineProduct, IsFineWay};
 
@@ -43,36 +43,6 @@ pub fn height(spot: Spot) -> i64
     ensures range { IsHeight result }
 {
     spot.h as i64
-}
-
-// Where the spot is along the axes.
-pub fn x_of(spot: Spot) -> i64
-    ensures value { result ≡ spot.at.x }
-    ensures range { IsFineCoordinate result }
-{
-    spot.x as i64
-}
-
-pub fn y_of(spot: Spot) -> i64
-    ensures value { result ≡ spot.at.y }
-    ensures range { IsFineCoordinate result }
-{
-    spot.y as i64
-}
-
-// Where a grid point is along the axes, in tenths.
-pub fn tenfold_x(point: Point) -> i64
-    ensures value { result ≡ (tenfold point).x }
-    ensures range { IsFineCoordinate result }
-{
-    10 * point.x() as i64
-}
-
-pub fn tenfold_y(point: Point) -> i64
-    ensures value { result ≡ (tenfold point).y }
-    ensures range { IsFineCoordinate result }
-{
-    10 * point.y() as i64
 }
 
 // The way along an edge.

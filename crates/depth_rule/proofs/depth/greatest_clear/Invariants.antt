@@ -1,11 +1,9 @@
 -- The invariants of the loop of `greatest_clear`.
-use Rattle.std.proofs.Common.{◌-◌}
-use Rattle.engrave_model.specs.Depth.{IsDiscClear}
-use Rattle.depth_rule.proofs.Bisection.{Brackets}
+use Rattle.std.proofs.Common.{◌≡◌, ◌≤◌, ◌-◌}
 use Rattle.depth_rule.proofs.depth.greatest_clear.Given as goal
 
-abbrev pub invariant-loop-low : goal.invariant-loop-low
-invariant-loop-low l = Brackets (IsDiscClear l.edges l.bit l.p) l.most l.low l.high
+abbrev pub invariant-loop-asked : goal.invariant-loop-asked
+invariant-loop-asked l = (l.asked ≤ l.most) × (l.asked ≡ 0 → l.most ≡ 0)
 
-abbrev pub decreases-loop-low : goal.decreases-loop-low
-decreases-loop-low l = l.high - l.low
+abbrev pub decreases-loop-asked : goal.decreases-loop-asked
+decreases-loop-asked l = l.most - l.asked

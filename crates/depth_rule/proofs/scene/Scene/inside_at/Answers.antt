@@ -12,5 +12,5 @@ returns c =
     let y : FitsSigned w128 c.args.y = c.ranges.y in
     let den : FitsSigned w128 c.args.den = c.ranges.den in
     λ w is. c.inside_ratio.ensures c.args.self.now w
-    (subst (AreRowsOf c.self.inside.rows) c.self.view_is c.self.invariant)
+    (subst (AreRowsOf c.self.inside.rows) c.self.view_is c.self.invariant.in_rows)
     (simp to_z-of_z is)

@@ -1,6 +1,6 @@
 -- Answers the goals of `is_disc_clear`.
 use Rattle.engrave_model.proofs.Discs.{clear_of_each, each_of_clear}
-use Rattle.depth_rule.proofs.depth.is_disc_clear.Goals as goal
+use Rattle.depth_rule.proofs.steps.is_disc_clear.Goals as goal
 
 pub returns : goal.returns
 returns c = (
