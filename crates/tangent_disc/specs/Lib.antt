@@ -1,0 +1,10 @@
+-- The definitions of the crate.
+pub mod Contacts
+pub mod Law
+pub mod OpenDisc
+pub mod Pieces
+pub mod Roots
+pub mod Rounding
+pub mod Tangent
+pub mod Touch
+pub mod Ways
