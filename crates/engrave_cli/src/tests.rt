@@ -3,6 +3,7 @@
 ghost use Rattle.std.specs.Prelude.{◌≤◌};
 
 mod check;
+mod contacts;
 mod devices;
 mod large;
 mod listing;

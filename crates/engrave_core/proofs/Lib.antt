@@ -1,5 +1,6 @@
 -- The lemmas of the crate.
 pub mod CheckedCode
+pub mod ContactLines
 pub mod Done
 pub mod Safety
 pub mod Texts

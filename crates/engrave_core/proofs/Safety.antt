@@ -2,7 +2,7 @@
 use Rattle.std.specs.Prelude.{◌≡◌, ℕ, Option, Some, None, List}
 use Rattle.std.proofs.Common.{sym, subst, ◌∙◌, ◌⊎◌, inl, inr}
 use Rattle.job_words.specs.declared.request.Request.{Request}
-use Rattle.job_words.specs.declared.request.Request.TheVariants.{Probe, Moves, Check}
+use Rattle.job_words.specs.declared.request.Request.TheVariants.{Probe, Moves, Check, Contacts}
 use Rattle.engrave_core.specs.Commands.{IsDueOfRequest, IsTrueOfRequest}
 use Rattle.engrave_core.specs.Due.{IsDueOf, IsSafeRun, IsTrueRun}
 use Rattle.engrave_core.specs.Given.{cone_of}
@@ -18,6 +18,7 @@ done_is_safe files None text due = tt
 done_is_safe files (Some (Probe shape at bit rmax limit)) text due = tt
 done_is_safe files (Some (Moves code units)) text due = tt
 done_is_safe files (Some (Check shape code bit rmax)) text due = checked_is_safe files shape code (cone_of bit rmax) text due
+done_is_safe files (Some (Contacts shape step rmax)) text due = tt
 
 -- where the whole reply was written as Done, or the output failed
 pub written_is_safe : (files : Files) (request : Option Request) (text : List ℕ) (outcome result : Outcome)
@@ -34,12 +35,14 @@ due_is_true : (files : Files) (request : Request) (outcome : Outcome) (text : Li
 due_is_true files (Probe shape at bit rmax limit) outcome text due = tt
 due_is_true files (Moves code units) outcome text due = tt
 due_is_true files (Check shape code bit rmax) outcome text due = checked_is_true files shape code (cone_of bit rmax) outcome text due
+due_is_true files (Contacts shape step rmax) outcome text due = tt
 
 -- an outcome that answers nothing says nothing
 says_nothing : (files : Files) (request : Request) → IsTrueOfRequest files request ReadFault × IsTrueOfRequest files request WriteFault × IsTrueOfRequest files request Memory
 says_nothing files (Probe shape at bit rmax limit) = (tt, tt, tt)
 says_nothing files (Moves code units) = (tt, tt, tt)
 says_nothing files (Check shape code bit rmax) = (tt, tt, tt)
+says_nothing files (Contacts shape step rmax) = (tt, tt, tt)
 
 answered_is_true : (files : Files) (request : Request) (outcome : Outcome) (text : List ℕ)
     → IfAnswered outcome (IsDueOfRequest files request outcome text) → IsTrueOfRequest files request outcome

@@ -1,7 +1,9 @@
 -- The line that reports a refusal.
 use Rattle.std.specs.Prelude.{ℕ, List, [], ◌++◌, codes, decimal}
 use Rattle.engrave_core.specs.declared.outcome.InputFault.{InputFault}
-use Rattle.engrave_core.specs.declared.outcome.InputFault.TheVariants.{TooLong, Loops, Code}
+use Rattle.engrave_core.specs.declared.outcome.InputFault.TheVariants.{TooLong, Loops, Code, StepTooFine, TooMany}
+use Rattle.engrave_core.specs.declared.outcome.Kind.{Kind}
+use Rattle.engrave_core.specs.declared.outcome.Kind.TheVariants.{Contacts}
 use Rattle.engrave_core.specs.declared.outcome.Outcome.{Outcome}
 use Rattle.engrave_core.specs.declared.outcome.Outcome.TheVariants.{Done, NotClear, Usage, Input, Absent, ReadFault, WriteFault, Memory}
 use Rattle.engrave_core.specs.declared.outcome.Which.{Which}
@@ -26,11 +28,17 @@ loops_line fault = codes "input loops " ++ loops_tail fault ++ codes "\n"
 abbrev pub code_line : CodeFault → List ℕ
 code_line fault = codes "input code line " ++ code_tail fault ++ codes "\n"
 
+-- what there is too much of
+abbrev pub kind_words : Kind → List ℕ
+kind_words Contacts = codes "contacts"
+
 -- the line of a fault of the input
 abbrev pub input_line : InputFault → List ℕ
 input_line (TooLong which) = which_line (codes "input too long") which
 input_line (Loops fault) = loops_line fault
 input_line (Code fault) = code_line fault
+input_line (StepTooFine edge) = codes "input step too fine " ++ decimal edge ++ codes "\n"
+input_line (TooMany kind) = codes "input too many " ++ kind_words kind ++ codes "\n"
 
 -- the line of a verdict that isn't `Clear`
 abbrev pub verdict_line : Verdict → List ℕ

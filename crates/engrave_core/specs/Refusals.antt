@@ -11,7 +11,10 @@ use Rattle.shop_port.specs.declared.loading.LoadFault.{LoadFault}
 use Rattle.shop_port.specs.declared.loading.LoadFault.TheVariants as load
 use Rattle.engrave_core.specs.declared.refusal.Refusal.{Refusal}
 use Rattle.engrave_core.specs.declared.refusal.Refusal.TheVariants as refusal
-use Rattle.engrave_core.specs.declared.outcome.InputFault.TheVariants.{TooLong, Loops, Code as CodeOf}
+use Rattle.tangent_disc.specs.declared.contact.ContactFault.{ContactFault}
+use Rattle.tangent_disc.specs.declared.contact.ContactFault.TheVariants as contact
+use Rattle.engrave_core.specs.declared.outcome.InputFault.TheVariants.{TooLong, Loops, Code as CodeOf, StepTooFine, TooMany}
+use Rattle.engrave_core.specs.declared.outcome.Kind.TheVariants.{Contacts}
 use Rattle.engrave_core.specs.declared.outcome.Outcome.{Outcome}
 use Rattle.engrave_core.specs.declared.outcome.Outcome.TheVariants.{Input, Absent, ReadFault, Memory}
 use Rattle.engrave_core.specs.declared.outcome.Which.{Which}
@@ -44,6 +47,12 @@ abbrev pub code_refusal : FinishFault → Refusal
 code_refusal (finish.Code fault) = refusal.Input (CodeOf fault)
 code_refusal finish.Memory = refusal.Memory
 
+-- the refusal of a step by which a drawing's contacts can't be listed
+abbrev pub contact_refusal : ContactFault → Refusal
+contact_refusal (contact.StepTooFine edge) = refusal.Input (StepTooFine edge)
+contact_refusal contact.TooMany = refusal.Input (TooMany Contacts)
+contact_refusal contact.Memory = refusal.Memory
+
 -- ---- which refusals there are
 
 -- the refusals of a file
@@ -73,3 +82,10 @@ IsRefusalOfStoredDrawing outcome = IsRefusalOfFile Drawing outcome ⊎ IsRefusal
 -- the refusals of the file that `--code` names
 abbrev pub IsRefusalOfStoredCode : Outcome → Type 0
 IsRefusalOfStoredCode outcome = IsRefusalOfFile Code outcome ⊎ IsRefusalOfCode outcome
+
+-- the refusals of a step between contacts
+abbrev pub IsRefusalOfContacts : Outcome → Type 0
+IsRefusalOfContacts (Input (StepTooFine edge)) = Unit {0}
+IsRefusalOfContacts (Input (TooMany Contacts)) = Unit {0}
+IsRefusalOfContacts Memory = Unit {0}
+IsRefusalOfContacts outcome = ⊥

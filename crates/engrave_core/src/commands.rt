@@ -9,6 +9,7 @@ ghost use Rattle.engrave_core.specs.Stored.{AnswersFrom};
 ghost use Rattle.engrave_core.specs.Outcome.{outcome_of};
 
 mod check;
+mod contacts;
 mod moves;
 mod probe;
 
@@ -52,6 +53,7 @@ fn run<D: Depot>(alloc: Global, request: &Request, depot: &mut D) -> Result<Vec<
             bit,
             rmax,
         } => check::run(alloc, shape, code, &bit_of(*bit, *rmax), depot),
+        Request::Contacts { shape, step, rmax } => contacts::run(alloc, shape, *step, *rmax, depot),
     }
 }
 

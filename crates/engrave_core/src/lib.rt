@@ -10,5 +10,5 @@ mod outcome;
 mod refusal;
 mod top;
 
-pub use outcome::{InputFault, Outcome, Which, status};
+pub use outcome::{InputFault, Kind, Outcome, Which, status};
 pub use top::engrave;

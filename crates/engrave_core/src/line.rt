@@ -3,7 +3,7 @@ ghost use Rattle.std.specs.Prelude.{◌≡◌, string_bytes, IfOk, MatchOption};
 ghost use Rattle.engrave_core.specs.Outcome.{outcome_of};
 ghost use Rattle.engrave_core.specs.Line.{line_of, input_line, loops_line, code_line, verdict_line};
 
-use crate::outcome::{InputFault, Which};
+use crate::outcome::{InputFault, Kind, Which};
 use crate::refusal::Refusal;
 use gcode_text::CodeFault;
 use gouge_checker::Verdict;
@@ -33,6 +33,8 @@ fn line_of_input(alloc: Global, fault: &InputFault) -> Result<String, AllocError
         InputFault::TooLong(Which::Code) => String::from_str(alloc, "input too long code\n"),
         InputFault::Loops(fault) => line_of_loops(alloc, fault),
         InputFault::Code(fault) => line_of_code(alloc, fault),
+        InputFault::StepTooFine(edge) => format!(in alloc; "input step too fine {edge}\n"),
+        InputFault::TooMany(kind) => line_of_too_many(alloc, *kind),
     }
 }
 
@@ -50,6 +52,13 @@ fn line_of_code(alloc: Global, fault: &CodeFault) -> Result<String, AllocError>
     let line = fault.line;
     let words = fault.kind.words();
     format!(in alloc; "input code line {line} {words}\n")
+}
+
+fn line_of_too_many(alloc: Global, kind: Kind) -> Result<String, AllocError>
+    ensures { IfOk result (λ line. string_bytes line ≡ input_line (InputFault.TooMany kind)) }
+{
+    let words = kind.words();
+    format!(in alloc; "input too many {words}\n")
 }
 
 fn line_of_verdict(alloc: Global, verdict: &Verdict) -> Result<String, AllocError>

@@ -45,6 +45,30 @@ pub enum InputFault {
     Loops(LoopsFault),
     /// The text isn't a G-code program of the profile.
     Code(CodeFault),
+    /// The step divides the edge of this number, and none before it, into more than 8192 pieces.
+    StepTooFine(u32),
+    /// There is too much of something.
+    TooMany(Kind),
+}
+
+/// What there can be too much of.
+#[derive(Clone, Copy, Debug, PartialEq, Eq)]
+pub enum Kind {
+    /// Contacts along the outline: more than 1,048,576.
+    Contacts,
+}
+
+impl Kind {
+    ghost use Rattle.engrave_core.specs.Line.{kind_words};
+
+    /// The words that are printed for it.
+    pub(crate) fn words(self) -> &'static str
+        ensures { result.now ≡ kind_words self }
+    {
+        match self {
+            Kind::Contacts => "contacts",
+        }
+    }
 }
 
 /// The exit status that reports an outcome: from 0 for `Done` to 7 for `Memory`, in the order of the outcomes.

@@ -1,12 +1,13 @@
 // Why a command gives no text.
 ghost use Rattle.std.specs.Prelude.{◌≡◌};
 
-use crate::outcome::{InputFault, Outcome, Which};
+use crate::outcome::{InputFault, Kind, Outcome, Which};
 use gcode_text::FinishFault;
 use gouge_checker::Verdict;
 use job_words::WordsFault;
 use loops_text::{LoopsFault, LoopsKind};
 use std::alloc::AllocError;
+use tangent_disc::ContactFault;
 
 /// Why a command gives no text. As an outcome it is neither `Done` nor `WriteFault`.
 #[derive(Clone, Copy, Debug, PartialEq, Eq)]
@@ -87,6 +88,20 @@ impl From<FinishFault> for Refusal {
         match fault {
             FinishFault::Code(fault) => Refusal::Input(InputFault::Code(fault)),
             FinishFault::Memory => Refusal::Memory,
+        }
+    }
+}
+
+impl From<ContactFault> for Refusal {
+    ghost use Rattle.engrave_core.specs.Refusals.{contact_refusal};
+
+    ghost from_gives = { λ fault refusal. refusal ≡ contact_refusal fault };
+
+    fn from(fault: ContactFault) -> Refusal {
+        match fault {
+            ContactFault::StepTooFine(edge) => Refusal::Input(InputFault::StepTooFine(edge)),
+            ContactFault::TooMany => Refusal::Input(InputFault::TooMany(Kind::Contacts)),
+            ContactFault::Memory => Refusal::Memory,
         }
     }
 }

@@ -8,7 +8,7 @@ use Rattle.clap.proofs.WalkLemmas.{both}
 use Rattle.grid_num.specs.declared.units.Units.{Units}
 use Rattle.job_words.specs.Plain.{GivenOption, given_value, is_in_form}
 use Rattle.job_words.specs.Shape.{shape_by, shape_of}
-use Rattle.job_words.specs.Values.{at_of, bit_of, form_named, limit_of, number_of, or_default, point_of, rmax_of, slope_of, units_named, units_of}
+use Rattle.job_words.specs.Values.{at_of, bit_of, form_named, limit_of, number_of, or_default, point_of, rmax_of, slope_of, step_of, units_named, units_of}
 use Rattle.job_words.specs.declared.request.FormWord.{FormWord}
 
 abbrev pub Is : {A : Type 0} → Option A → Type 0
@@ -63,6 +63,9 @@ module _ (given : List GivenOption) (in_form : list_all is_in_form given ≡ tru
 
   pub rmax_some : Is (value (codes "rmax")) → Is (rmax_of (value (codes "rmax")))
   rmax_some there = needed_some (number_of 8191) (value (codes "rmax")) there (fits given in_form (codes "rmax"))
+
+  pub step_some : Is (value (codes "step")) → Is (step_of (value (codes "step")))
+  step_some there = needed_some (number_of 32767) (value (codes "step")) there (fits given in_form (codes "step"))
 
   pub units_some : Is (units_of (value (codes "units")))
   units_some = default_some _ units_named (value (codes "units")) (fits given in_form (codes "units"))

@@ -2,6 +2,7 @@
 pub mod Accepting
 pub mod Apps
 pub mod CheckLaw
+pub mod ContactsLaw
 pub mod Forms
 pub mod Laws
 pub mod MovesLaw

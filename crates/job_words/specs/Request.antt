@@ -3,6 +3,7 @@ use Rattle.std.specs.Prelude.{ℕ, if◌then◌else◌, Option, None, List, [], 
 use Rattle.plane_exact.specs.Cone.{IsCone}
 use Rattle.job_words.specs.Command.{Command}
 use Rattle.job_words.specs.Commands.{commands, named_among}
+use Rattle.job_words.specs.Commands.Contacts.{IsContactsInRange}
 use Rattle.job_words.specs.Commands.Probe.{IsProbeInRange}
 use Rattle.job_words.specs.Options.{is_accepted, value_in}
 use Rattle.job_words.specs.declared.request.Request.{Request}
@@ -24,3 +25,4 @@ abbrev pub IsInRange : Request → Type 0
 IsInRange (request.Probe shape at bit rmax limit) = IsProbeInRange bit rmax limit
 IsInRange (request.Moves code units) = Unit {0}
 IsInRange (request.Check shape code bit rmax) = IsCone bit.0 bit.1 rmax
+IsInRange (request.Contacts shape step rmax) = IsContactsInRange step rmax

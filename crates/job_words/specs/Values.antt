@@ -65,6 +65,10 @@ bit_of = option_and_then slope_of
 abbrev pub rmax_of : Option (List ℕ) → Option ℕ
 rmax_of = option_and_then (number_of 8191)
 
+-- `--step`, from 1 to 32,767
+abbrev pub step_of : Option (List ℕ) → Option ℕ
+step_of = option_and_then (number_of 32767)
+
 -- `--limit`, from 1 to 32,767, and that where it isn't given
 abbrev pub limit_of : Option (List ℕ) → Option ℕ
 limit_of = or_default 32767 (number_of 32767)

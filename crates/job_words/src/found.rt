@@ -2,7 +2,7 @@
 ghost use Rattle.std.specs.Prelude.{◌≡◌, IfOk, IfSome, Some, None, Err, codes};
 ghost use Rattle.clap.specs.Words.{first_value, found_of};
 ghost use Rattle.plane_exact.specs.Cone.{IsFromOneTo};
-ghost use Rattle.job_words.specs.Values.{at_of, bit_of, rmax_of, limit_of, form_of, units_of};
+ghost use Rattle.job_words.specs.Values.{at_of, bit_of, rmax_of, step_of, limit_of, form_of, units_of};
 ghost use Rattle.job_words.specs.Shape.{shape_of};
 
 use crate::fault::WordsFault;
@@ -27,6 +27,11 @@ pub const BIT: CommandOption = CommandOption {
 
 pub const RMAX: CommandOption = CommandOption {
     name: "rmax",
+    required: true,
+};
+
+pub const STEP: CommandOption = CommandOption {
+    name: "step",
     required: true,
 };
 
@@ -73,6 +78,13 @@ pub fn rmax_in(found: &ArgMatches) -> Option<u32>
     ensures range { IfSome result (IsFromOneTo 8191) }
 {
     read_number(found.get_str("rmax")?, 8191)
+}
+
+pub fn step_in(found: &ArgMatches) -> Option<u32>
+    ensures value { result ≡ step_of (first_value (found_of found.now) (codes "step")) }
+    ensures range { IfSome result (IsFromOneTo 32767) }
+{
+    read_number(found.get_str("step")?, 32_767)
 }
 
 /// 32,767 where the option isn't given.

@@ -50,4 +50,12 @@ pub enum Request {
         /// As in `Probe`.
         rmax: u32,
     },
+    /// The greatest disc that touches the outline at each step along it.
+    Contacts {
+        shape: DrawingWords,
+        /// The greatest distance between contacts along an edge, in grid units, from 1 to 32,767.
+        step: u32,
+        /// As in `Probe`.
+        rmax: u32,
+    },
 }

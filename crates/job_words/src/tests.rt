@@ -1,6 +1,7 @@
 // Words and what they ask for, by the written forms; a file a command.
 
 mod check;
+mod contacts;
 mod moves;
 mod probe;
 
@@ -27,12 +28,65 @@ fn shape_text(alloc: Global, shape: &DrawingWords) -> Result<String, AllocError>
     format!(in alloc; "{drawing} {form:?} {units:?}")
 }
 
-/// A fault as text: `usage` or `memory`.
-fn fault_text(alloc: Global, fault: WordsFault) -> Result<String, AllocError> {
-    match fault {
-        WordsFault::Usage => String::from_str(alloc, "usage"),
-        WordsFault::Memory => String::from_str(alloc, "memory"),
+/// What a line asks for, as text: the values of its command, `usage` or `memory`.
+fn text_of_line(alloc: Global, line: &str) -> Result<String, AllocError> {
+    match read_line(alloc, line)? {
+        Ok(request) => text_of_request(alloc, &request),
+        Err(WordsFault::Usage) => String::from_str(alloc, "usage"),
+        Err(WordsFault::Memory) => String::from_str(alloc, "memory"),
     }
+}
+
+fn text_of_request(alloc: Global, request: &Request) -> Result<String, AllocError> {
+    match request {
+        Request::Probe {
+            shape,
+            at,
+            bit,
+            rmax,
+            limit,
+        } => {
+            let shape = shape_text(alloc, shape)?;
+            let (x, y) = (at.x(), at.y());
+            let (sn, sd) = *bit;
+            format!(in alloc; "{shape} {x},{y} {sn}/{sd} {rmax} {limit}")
+        }
+        Request::Moves { code, units } => {
+            let code = code.as_str();
+            format!(in alloc; "{code} {units:?}")
+        }
+        Request::Check {
+            shape,
+            code,
+            bit,
+            rmax,
+        } => {
+            let shape = shape_text(alloc, shape)?;
+            let code = code.as_str();
+            let (sn, sd) = *bit;
+            format!(in alloc; "{shape} {code} {sn}/{sd} {rmax}")
+        }
+        Request::Contacts { shape, step, rmax } => {
+            let shape = shape_text(alloc, shape)?;
+            format!(in alloc; "{shape} {step} {rmax}")
+        }
+    }
+}
+
+#[test]
+fn lines_ask_for_their_values(rt: HostRuntime) -> Result<(), Fail> {
+    for lines in [
+        check::LINES.as_slice(),
+        contacts::LINES.as_slice(),
+        moves::LINES.as_slice(),
+        probe::LINES.as_slice(),
+    ] {
+        for (line, want) in lines {
+            let text = text_of_line(rt.alloc(), line)?;
+            assert!(rt; text.as_str() == *want, "{line}: {text}");
+        }
+    }
+    Ok(())
 }
 
 #[test]

@@ -2,7 +2,7 @@
 ghost use Rattle.std.specs.Prelude.{◌≡◌, IfOk, Some, None, Err, map, string_bytes};
 ghost use Rattle.job_words.specs.Request.{request_of, IsInRange};
 
-use crate::commands::{check, moves, probe};
+use crate::commands::{check, contacts, moves, probe};
 use crate::fault::WordsFault;
 use crate::request::Request;
 use std::alloc::Global;
@@ -27,6 +27,8 @@ pub fn read_words(alloc: Global, words: &[String]) -> Result<Request, WordsFault
         moves::read(alloc, words)
     } else if name == "check" {
         check::read(alloc, words)
+    } else if name == "contacts" {
+        contacts::read(alloc, words)
     } else {
         Err(WordsFault::Usage)
     }

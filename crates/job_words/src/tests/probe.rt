@@ -1,12 +1,11 @@
 // The words of `probe`.
 
-use super::{fault_text, read_line, shape_text};
-use crate::request::Request;
+use super::text_of_line;
 use std::alloc::{AllocError, Global};
 use std::test::Fail;
 
 /// Lines of words, and what they ask for.
-static LINES: [(&str, &str); 15] = [
+pub static LINES: [(&str, &str); 15] = [
     (
         "probe --drawing=d --at=5,500 --bit=1/2 --rmax=100",
         "d Loops Mm100 5,500 1/2 100 32767",
@@ -134,37 +133,6 @@ static MORE_WORDS: [(&str, &str); 26] = [
     ("plate", ""),
     ("", ""),
 ];
-
-/// What a line asks for, as text.
-fn text_of_line(alloc: Global, line: &str) -> Result<String, AllocError> {
-    match read_line(alloc, line)? {
-        Ok(
-            Request::Probe {
-                shape,
-                at,
-                bit,
-                rmax,
-                limit,
-            },
-        ) => {
-            let shape = shape_text(alloc, &shape)?;
-            let (x, y) = (at.x(), at.y());
-            let (sn, sd) = bit;
-            format!(in alloc; "{shape} {x},{y} {sn}/{sd} {rmax} {limit}")
-        }
-        Ok(_) => String::from_str(alloc, "another command"),
-        Err(fault) => fault_text(alloc, fault),
-    }
-}
-
-#[test]
-fn lines_ask_for_their_values(rt: HostRuntime) -> Result<(), Fail> {
-    for (line, want) in &LINES {
-        let text = text_of_line(rt.alloc(), line)?;
-        assert!(rt; text.as_str() == *want, "{line}: {text}");
-    }
-    Ok(())
-}
 
 /// The expected text: `usage` where no values are expected.
 fn want(alloc: Global, values: &str) -> Result<String, AllocError> {

@@ -1,0 +1,242 @@
+// `contacts`: worked examples by their whole text, and refusals. The expected discs were computed in fractions by another program.
+
+use super::{NEVER, SQUARE, expect, run};
+use std::test::Fail;
+
+/// The greatest square.
+const GREATEST: &str = "-32768,-32768 32767,-32768 32767,32767 -32768,32767\n";
+
+#[test]
+fn each_contact_is_printed_with_its_disc(rt: HostRuntime) -> Result<(), Fail> {
+    for (drawing, step, text) in [
+        // A corner that points inwards limits the discs at its own two edges by their neighbours.
+        (
+            "0,0 40,0 40,20 20,20 20,40 0,40",
+            20,
+            "0 0 0/2 none 0 0,0\n\
+             0 0 1/2 left 10 20,10\n\
+             0 0 2/2 none 0 40,0\n\
+             0 1 0/1 none 0 40,0\n\
+             0 1 1/1 none 0 40,20\n\
+             0 2 0/1 none 0 40,20\n\
+             0 2 1/1 left 10 20,10\n\
+             0 3 0/1 left 10 10,20\n\
+             0 3 1/1 none 0 20,40\n\
+             0 4 0/1 none 0 20,40\n\
+             0 4 1/1 none 0 0,40\n\
+             0 5 0/2 none 0 0,40\n\
+             0 5 1/2 left 10 10,20\n\
+             0 5 2/2 none 0 0,0\n",
+        ),
+        // A sliver: at most places no disc is free.
+        (
+            "0,0 100,0 100,3",
+            50,
+            "0 0 0/2 none 0 0,0\n\
+             0 0 1/2 none 0 50,0\n\
+             0 0 2/2 none 0 100,0\n\
+             0 1 0/1 none 0 100,0\n\
+             0 1 1/1 none 0 100,3\n\
+             0 2 0/3 none 0 100,3\n\
+             0 2 1/3 left 1 67,1\n\
+             0 2 2/3 none 0 33,1\n\
+             0 2 3/3 none 0 0,0\n",
+        ),
+        // Three loops that meet in a point.
+        (
+            "0,0 30,0 0,30\n0,0 -30,0 -30,-30\n0,0 30,-30 0,-30",
+            40,
+            "0 0 0/1 none 0 0,0\n\
+             0 0 1/1 none 0 30,0\n\
+             0 1 0/2 none 0 30,0\n\
+             0 1 1/2 left 8 9,9\n\
+             0 1 2/2 none 0 0,30\n\
+             0 2 0/1 none 0 0,30\n\
+             0 2 1/1 none 0 0,0\n\
+             1 3 0/1 none 0 0,0\n\
+             1 3 1/1 none 0 -30,0\n\
+             1 4 0/1 none 0 -30,0\n\
+             1 4 1/1 none 0 -30,-30\n\
+             1 5 0/2 none 0 -30,-30\n\
+             1 5 1/2 left 8 -21,-9\n\
+             1 5 2/2 none 0 0,0\n\
+             2 6 0/2 none 0 0,0\n\
+             2 6 1/2 right 8 9,-21\n\
+             2 6 2/2 none 0 30,-30\n\
+             2 7 0/1 none 0 30,-30\n\
+             2 7 1/1 none 0 0,-30\n\
+             2 8 0/1 none 0 0,-30\n\
+             2 8 1/1 none 0 0,0\n",
+        ),
+        // The vertex of another loop limits the disc at the middle of the plate's lower side.
+        (
+            "0,0 60,0 60,60 0,60\n30,20 40,40 20,40",
+            30,
+            "0 0 0/2 none 0 0,0\n\
+             0 0 1/2 left 10 30,10\n\
+             0 0 2/2 none 0 60,0\n\
+             0 1 0/2 none 0 60,0\n\
+             0 1 1/2 left 11 49,30\n\
+             0 1 2/2 none 0 60,60\n\
+             0 2 0/2 none 0 60,60\n\
+             0 2 1/2 left 10 30,50\n\
+             0 2 2/2 none 0 0,60\n\
+             0 3 0/2 none 0 0,60\n\
+             0 3 1/2 left 11 11,30\n\
+             0 3 2/2 none 0 0,0\n\
+             1 4 0/1 right 14 42,14\n\
+             1 4 1/1 right 10 49,36\n\
+             1 5 0/1 right 10 40,50\n\
+             1 5 1/1 right 10 20,50\n\
+             1 6 0/1 right 10 11,36\n\
+             1 6 1/1 right 14 18,14\n",
+        ),
+        // Two plates that share a side: a disc on each side of it.
+        (
+            "0,0 10,0 10,20 0,20\n10,0 30,0 30,20 10,20",
+            10,
+            "0 0 0/1 none 0 0,0\n\
+             0 0 1/1 none 0 10,0\n\
+             0 1 0/2 none 0 10,0\n\
+             0 1 1/2 left 5 5,10\n\
+             0 1 2/2 none 0 10,20\n\
+             0 2 0/1 none 0 10,20\n\
+             0 2 1/1 none 0 0,20\n\
+             0 3 0/2 none 0 0,20\n\
+             0 3 1/2 left 5 5,10\n\
+             0 3 2/2 none 0 0,0\n\
+             1 4 0/2 none 0 10,0\n\
+             1 4 1/2 left 10 20,10\n\
+             1 4 2/2 none 0 30,0\n\
+             1 5 0/2 none 0 30,0\n\
+             1 5 1/2 left 10 20,10\n\
+             1 5 2/2 none 0 30,20\n\
+             1 6 0/2 none 0 30,20\n\
+             1 6 1/2 left 10 20,10\n\
+             1 6 2/2 none 0 10,20\n\
+             1 7 0/2 none 0 10,20\n\
+             1 7 1/2 left 10 20,10\n\
+             1 7 2/2 none 0 10,0\n",
+        ),
+        // A trapezium whose slanted sides limit the disc.
+        (
+            "0,0 60,0 50,10 10,10",
+            30,
+            "0 0 0/2 none 0 0,0\n\
+             0 0 1/2 left 5 30,5\n\
+             0 0 2/2 none 0 60,0\n\
+             0 1 0/1 none 0 60,0\n\
+             0 1 1/1 none 0 50,10\n\
+             0 2 0/2 none 0 50,10\n\
+             0 2 1/2 left 5 30,5\n\
+             0 2 2/2 none 0 10,10\n\
+             0 3 0/1 none 0 10,10\n\
+             0 3 1/1 none 0 0,0\n",
+        ),
+        ("", 1, ""),
+    ] {
+        let words = format!(in rt.alloc(); "contacts --drawing=d --step={step} --rmax=60")?;
+        expect(&rt, rt.alloc(), words.as_str(), (drawing, ""), (0, text))?;
+    }
+    Ok(())
+}
+
+#[test]
+fn discs_of_a_square_follow_its_middle_whichever_way_it_goes(rt: HostRuntime) -> Result<(), Fail> {
+    let words = "contacts --drawing=d --step=250 --rmax=600";
+    let (status, text) = run(rt.alloc(), words, (SQUARE, ""), 65_536, (NEVER, NEVER))?;
+    assert_eq!(rt; (status, text.as_str().lines().count()), (0, 20));
+    assert!(rt;
+        text.as_str().starts_with(
+            "0 0 0/4 none 0 0,0\n0 0 1/4 left 250 250,250\n0 0 2/4 left 500 500,500\n\
+             0 0 3/4 left 250 750,250\n0 0 4/4 none 0 1000,0\n"
+        )
+    );
+    let mirrored = "0,0 0,1000 1000,1000 1000,0";
+    let (_, text) = run(rt.alloc(), words, (mirrored, ""), 65_536, (NEVER, NEVER))?;
+    assert_eq!(rt;
+        text.as_str().lines().nth(16),
+        Some("0 3 1/4 right 250 750,250")
+    );
+    Ok(())
+}
+
+#[test]
+fn the_finest_step_of_the_greatest_square_is_printed(rt: HostRuntime) -> Result<(), Fail> {
+    let words = "contacts --drawing=d --step=8 --rmax=8191";
+    let (status, text) = run(rt.alloc(), words, (GREATEST, ""), 65_536, (NEVER, NEVER))?;
+    assert_eq!(rt; (status, text.as_str().lines().count()), (0, 32_772));
+    // No disc is free at the last corner.
+    assert!(rt;
+        text.as_str()
+            .ends_with("\n0 3 8192/8192 none 0 -32768,-32768\n")
+    );
+    Ok(())
+}
+
+#[test]
+fn contacts_are_refused_in_their_order(rt: HostRuntime) -> Result<(), Fail> {
+    let fine = "input step too fine 0\n";
+    for (words, drawing, line, want) in [
+        ("contacts --drawing=d --step=7 --rmax=1", GREATEST, fine, 3),
+        (
+            "contacts --drawing=d --step=5 --rmax=1",
+            "0,0 9,9 9,0\n0,0 32767,32767 32767,32766 0,9",
+            "input step too fine 3\n",
+            3,
+        ),
+        (
+            "contacts --drawing=e --step=7 --rmax=1",
+            GREATEST,
+            "absent drawing\n",
+            4,
+        ),
+        (
+            "contacts --drawing=d --step=7 --rmax=1",
+            "5,5",
+            "input loops 0 short\n",
+            3,
+        ),
+        (
+            "contacts --drawing=d --step=0 --rmax=1",
+            GREATEST,
+            "usage\n",
+            2,
+        ),
+        (
+            "contacts --drawing=d --step=32768 --rmax=1",
+            GREATEST,
+            "usage\n",
+            2,
+        ),
+        (
+            "contacts --drawing=d --step=9 --rmax=0",
+            GREATEST,
+            "usage\n",
+            2,
+        ),
+        (
+            "contacts --drawing=d --step=9 --rmax=8192",
+            GREATEST,
+            "usage\n",
+            2,
+        ),
+        ("contacts --drawing=d --rmax=1", GREATEST, "usage\n", 2),
+        (
+            "contacts --drawing=d --step=9 --rmax=1 --bit=1/1",
+            GREATEST,
+            "usage\n",
+            2,
+        ),
+    ] {
+        expect(&rt, rt.alloc(), words, (drawing, ""), (want, line))?;
+    }
+    // 132 edges of 8192 pieces each.
+    let mut many = String::new(rt.alloc());
+    for _ in 0..33u32 {
+        many.push_str(GREATEST)?;
+    }
+    let words = "contacts --drawing=d --step=8 --rmax=1";
+    let line = "input too many contacts\n";
+    expect(&rt, rt.alloc(), words, (many.as_str(), ""), (3, line))
+}

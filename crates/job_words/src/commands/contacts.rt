@@ -1,0 +1,45 @@
+// `contacts`: the greatest disc that touches the outline at each step along it.
+ghost use Rattle.std.specs.Prelude.{◌≡◌, IfOk, Some, None, Err, map, string_bytes};
+ghost use Rattle.clap.specs.Words.{first_value, found_of};
+ghost use Rattle.job_words.specs.Commands.Contacts.{contacts, contacts_options, contacts_request};
+ghost use Rattle.job_words.specs.Options.{row_of};
+ghost use Rattle.job_words.specs.Request.{IsInRange, command_request};
+
+use crate::fault::WordsFault;
+use crate::found::{DRAWING, FORM, RMAX, STEP, UNITS, rmax_in, shape_in, step_in};
+use crate::options::{CommandOption, match_words};
+use crate::request::Request;
+use clap::ArgMatches;
+use std::alloc::Global;
+
+static OPTIONS: [CommandOption; 5] = [STEP, RMAX, DRAWING, FORM, UNITS];
+
+#[tactic(auto, unfolding(crate::specs::Commands::Contacts::contacts_options))]
+fn options() -> &'static [CommandOption]
+    ensures { map row_of result.now ≡ contacts_options }
+{
+    &OPTIONS
+}
+
+/// What the words, of which the first is the command's name, ask for.
+#[tactic(auto, unfolding(crate::specs::Request::command_request))]
+pub fn read(alloc: Global, words: &[String]) -> Result<Request, WordsFault>
+    ensures accepted { IfOk result (λ r. command_request contacts (map string_bytes words.now) ≡ Some r) }
+    ensures range { IfOk result IsInRange }
+    ensures usage { result ≡ Err WordsFault.Usage → command_request contacts (map string_bytes words.now) ≡ None }
+{
+    let found = match_words(alloc, options(), words)?;
+    read_values(alloc, &found)
+}
+
+#[tactic(auto, unfolding(crate::specs::Commands::Contacts::contacts_request))]
+fn read_values(alloc: Global, found: &ArgMatches) -> Result<Request, WordsFault>
+    ensures accepted { IfOk result (λ r. contacts_request (first_value (found_of found.now)) ≡ Some r) }
+    ensures range { IfOk result IsInRange }
+    ensures usage { result ≡ Err WordsFault.Usage → contacts_request (first_value (found_of found.now)) ≡ None }
+{
+    let step = step_in(found).ok_or(WordsFault::Usage)?;
+    let rmax = rmax_in(found).ok_or(WordsFault::Usage)?;
+    let shape = shape_in(alloc, found)?;
+    Ok(Request::Contacts { shape, step, rmax })
+}
