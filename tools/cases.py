@@ -191,6 +191,18 @@ def touching_depth(edges, cone, p):
     return min(widest, MOST_DEPTH, math.isqrt(int(squared * cone.sd**2 / cone.sn**2)))
 
 
+def step(rng, edges):
+    """A step that gives no more than some thousand contacts, or one that is too fine for a long edge."""
+    longest = max((max(abs(bx - ax), abs(by - ay)) for (ax, ay), (bx, by) in edges), default=0)
+    return rng.choice([1, 1, 2, 3, rng.randint(1, 40)] if longest < 1000 else [1, 2, 500, rng.randint(100, MOST)])
+
+
+def small_radius(rng, reach):
+    """A greatest radius of a disc that is of the drawing's size or less."""
+    most = min(reach, 60)
+    return rng.choice([1, 2, rng.randint(1, 2 * most), rng.randint(1, 2 * most)])
+
+
 def box(edges, margin):
     """The least and the greatest x, and the least and the greatest y, of the drawing with a margin around it."""
     xs, ys = zip(*(a for a, _ in edges)) if edges else ((0,), (0,))

@@ -33,11 +33,11 @@ HOW_TO_BUILD = "(cd crates/engrave_cli && rt run -- probe --drawing=data/plate.l
 SLIM = Bit(1, 2000, 1)
 LONGEST_FOR_SLIM = 2000
 
-# how many depths, codes that are checked, and codes whose moves are listed, for each drawing
-DEPTHS, CODES, LISTED = 12, 14, 2
+# how many depths, codes that are checked, codes whose moves are listed, steps, and discs of a step, for each drawing
+DEPTHS, CODES, LISTED, STEPS, DISCS = 12, 14, 2, 2, 6
 
 SPARED, WITHIN = "clear: edges of which no sampled point is removed", "clear: removed points that are inside"
-COMPARED = ["inside", "depth", "moves", "check", SPARED, WITHIN]
+COMPARED = ["inside", "depth", "contacts", "discs", "moves", "check", SPARED, WITHIN]
 
 
 class Comparison:
@@ -123,6 +123,32 @@ class Comparison:
             return "at rmax"
         return "0, an edge is near" if depth == 0 else "bound by an edge"
 
+    def compare_contacts(self):
+        """All contacts, or their refusal, and the discs at some of them."""
+        for _ in range(STEPS):
+            step, rmax = cases.step(self.rng, self.edges), cases.small_radius(self.rng, self.reach)
+            words = ["contacts", f"--drawing={self.drawing}", f"--step={step}", f"--rmax={rmax}"]
+            fine = definitions.first_too_fine(self.edges, step)
+            if fine is not None:
+                self.agree("contacts", (3, f"input step too fine {fine}\n"), self.run(*words), *words)
+                self.spread["contacts: step too fine"] += 1
+                continue
+            contacts, (status, text) = definitions.contacts(self.edges, step), self.run(*words)
+            lines = text.splitlines()
+            parts = [line.split(" ", 3) for line in lines]
+            listed = [" ".join(part[:3]) for part in parts]
+            loop_of = [number for number, loop in enumerate(self.loops) for _ in loop]
+            due = [f"{loop_of[c.edge]} {c.edge} {c.k}/{c.n}" for c in contacts]
+            self.agree("contacts", (0, due), (status, listed), *words)
+            if len(lines) != len(contacts):
+                continue
+            for at in self.rng.sample(range(len(contacts)), min(DISCS, len(contacts))):
+                disc = definitions.tangent(self.edges, contacts[at], rmax)
+                said = f"{disc.side} {disc.j} {disc.centre[0]},{disc.centre[1]}"
+                self.agree("discs", said, parts[at][3], *words, contacts[at])
+                at_most = ", at rmax" if disc.j == rmax else ""
+                self.spread[f"discs: {disc.side}{at_most}"] += 1
+
     def compare_listed(self):
         for number in range(LISTED):
             units = self.rng.choice(list(cases.UNITS))
@@ -173,6 +199,7 @@ class Comparison:
     def whole(self):
         inside = self.compare_inside()
         self.compare_depths(inside)
+        self.compare_contacts()
         self.compare_listed()
         self.compare_checks(inside)
         if not self.differences:

@@ -5,9 +5,12 @@ what a definition says of all points of an edge, or of all moments of a move, is
 """
 
 from fractions import Fraction
+from itertools import count
+from math import floor
 from typing import NamedTuple
 
 MOST_DEPTH = 32767
+MOST_PIECES = 8192
 
 
 class Bit(NamedTuple):
@@ -34,6 +37,22 @@ class Spot(NamedTuple):
     def height(self):
         """The height in grid units."""
         return Fraction(self.h, 10)
+
+
+class Contact(NamedTuple):
+    """The point at k / n of the way along the edge of this number."""
+
+    edge: int
+    k: int
+    n: int
+
+
+class Disc(NamedTuple):
+    """The side of the edge on which a tangent disc lies, its number, and the grid point nearest to its centre."""
+
+    side: str
+    j: int
+    centre: tuple
 
 
 class Move(NamedTuple):
@@ -246,3 +265,77 @@ def depth_at(mv, s):
 
 def is_removed(bit, mv, s, w):
     return is_in_disc(bit, place_at(mv, s), depth_at(mv, s), w)
+
+
+def length_up(edge):
+    """The least whole number that the edge is no longer than."""
+    squared = squared_distance(*edge)
+    return next(length for length in count(1) if squared <= length**2)
+
+
+def pieces(edge, step):
+    """The least number of even pieces, at least one, that are no longer than the step."""
+    squared = squared_distance(*edge)
+    return next(n for n in count(1) if squared <= (n * step) ** 2)
+
+
+def first_too_fine(edges, step):
+    return next((number for number, edge in enumerate(edges) if pieces(edge, step) > MOST_PIECES), None)
+
+
+def contacts(edges, step):
+    divided = enumerate(pieces(edge, step) for edge in edges)
+    return [Contact(number, k, n) for number, n in divided for k in range(n + 1)]
+
+
+def contact_point(edge, contact):
+    return tuple(on_the_way(edge[0][i], edge[1][i], Fraction(contact.k, contact.n)) for i in (0, 1))
+
+
+def way_to_side(edge, side):
+    """The edge turned by a quarter to that side."""
+    (ax, ay), (bx, by) = edge
+    return (ay - by, bx - ax) if side == "left" else (by - ay, ax - bx)
+
+
+def disc_centre(edge, contact, side, j):
+    """The centre of the disc that touches the edge at the contact, of the radius j where the length is a whole number."""
+    c, way = contact_point(edge, contact), way_to_side(edge, side)
+    return tuple(c[i] + Fraction(j * way[i], length_up(edge)) for i in (0, 1))
+
+
+def is_off_disc(squared, squared_radius):
+    """A point at this squared distance from the centre isn't in the open disc."""
+    return squared >= squared_radius
+
+
+def is_free(edges, contact, side, j):
+    """No point of an edge is in the open disc: of no edge the one that is nearest to the centre."""
+    edge = edges[contact.edge]
+    centre = disc_centre(edge, contact, side, j)
+    squared_radius = Fraction(j**2 * squared_distance(*edge), length_up(edge) ** 2)
+    return all(is_off_disc(squared_distance(centre, nearest_point(centre, other)), squared_radius) for other in edges)
+
+
+def greatest_free(edges, contact, side, rmax):
+    return max(j for j in range(rmax + 1) if is_free(edges, contact, side, j))
+
+
+def is_side_taken(edges, centre):
+    return is_inside(edges, centre)
+
+
+def rounded(point):
+    """The nearest grid point; of two the right one, and the upper one."""
+    return tuple(floor(z + Fraction(1, 2)) for z in point)
+
+
+def tangent(edges, contact, rmax):
+    """The greatest tangent disc on the left where that is inside, else that on the right, else none."""
+    edge = edges[contact.edge]
+    for side in ("left", "right"):
+        j = greatest_free(edges, contact, side, rmax)
+        centre = disc_centre(edge, contact, side, j)
+        if j >= 1 and is_side_taken(edges, centre):
+            return Disc(side, j, rounded(centre))
+    return Disc("none", 0, rounded(contact_point(edge, contact)))

@@ -83,7 +83,10 @@ def cut_cases():
         for end in range(len(code)):
             yield due_case("cut codes", moves, b"", code[:end])
             yield due_case("cut codes", check, rows.ANGLE, code[:end])
-    for words in (rows.PROBE + " --limit=70 --form=loops", rows.MOVES + " --units=mm1000", rows.CHECK):
+    contacts = rows.CONTACTS.encode().split()
+    for end in range(len(rows.PLATE)):
+        yield due_case("cut drawings", contacts, rows.PLATE[:end], b"")
+    for words in (rows.CONTACTS, rows.PROBE + " --limit=70 --form=loops", rows.MOVES + " --units=mm1000", rows.CHECK):
         for end in range(len(words)):
             yield due_case("cut words", words[:end].encode().split(), rows.SQUARE, rows.DOWN)
 
@@ -127,11 +130,11 @@ def changed(chance, text, tokens):
 
 def random_case(chance):
     """One changed input."""
-    reader = chance.choice(("drawings", "codes", "checks", "words"))
+    reader = chance.choice(("drawings", "codes", "checks", "contacts", "words"))
     drawing, code = chance.choice(rows.DRAWING_BASES), chance.choice(rows.CODE_BASES)
     words = chance.choice(rows.WORD_BASES[reader]).encode()
     either = chance.random() < 0.5
-    if reader == "drawings" or reader == "checks" and either:
+    if reader in ("drawings", "contacts") or reader == "checks" and either:
         drawing = changed(chance, drawing, rows.DRAWING_TOKENS)
     if reader == "codes" or reader == "checks" and not either:
         code = changed(chance, code, rows.CODE_TOKENS)
@@ -196,8 +199,11 @@ def bounds(case):
     size += sum(limit for word in case.words for name, limit in rows.ENDLESS.items() if word.startswith(name))
     moves = min(1 + count_in(case.files.get("c", []), b"\n"), rows.MOST_MOVES)
     pairs = moves * count_in(case.files.get("d", []), b",") if case.words[:1] == [b"check"] else 0
+    points = count_in(case.files.get("d", []), b",") if case.words[:1] == [b"contacts"] else 0
+    contacts = min(points * (1 + hostile_expected.MOST_PIECES), hostile_expected.MOST_CONTACTS)
     memory = rows.BYTES_A_BYTE * size + rows.BYTES_A_MOVE * moves + rows.BYTES_A_WORD * len(case.words)
-    reading = rows.SECONDS_A_MEBIBYTE * size / MEBIBYTE + rows.SECONDS_A_MOVE * moves
+    memory += rows.BYTES_A_CONTACT * contacts
+    reading = rows.SECONDS_A_MEBIBYTE * size / MEBIBYTE + rows.SECONDS_A_MOVE * moves + rows.SECONDS_A_CONTACT * contacts
     return rows.SECONDS + reading + rows.SECONDS_A_PAIR * pairs, min(rows.MEBIBYTES + memory / MEBIBYTE, rows.MOST_MEBIBYTES)
 
 
@@ -258,17 +264,19 @@ def is_in_form(case, status):
     command = case.words[0] if case.words else b""
     form = rows.FORMS.get((command, status), rows.FORMS.get(status))
     with open("text", "rb") as text:
-        moves = 0
+        listed = 0
         for line in text:
-            if not rows.MOVE.fullmatch(line):
+            if not rows.LISTED_LINES.get(command, rows.MOVE).fullmatch(line):
                 break
-            moves += 1
+            listed += 1
         else:
             line = b""
         line += text.read(1024)
+    if (command, status) == (b"contacts", 0):
+        return line == b""
     if (command, status) == (b"moves", 0):
-        return line == b"moves %d\n" % moves
-    return form is not None and moves == 0 and form.fullmatch(line) is not None
+        return line == b"moves %d\n" % listed
+    return form is not None and listed == 0 and form.fullmatch(line) is not None
 
 
 def is_text(due):

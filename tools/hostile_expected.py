@@ -5,9 +5,11 @@ from fractions import Fraction
 from math import isqrt
 
 MOST_POINTS, MOST_DRAWING, MOST_CODE = 131_072, 16_777_216, 536_870_912
+MOST_PIECES, MOST_CONTACTS = 8192, 1_048_576
 PER_UNIT = {b"mm10": 10, b"mm100": 100, b"mm1000": 1000, b"in100": 100, b"in1000": 1000}
 OPTIONS = {
     b"probe": (b"drawing form units bit rmax at limit", b"drawing bit rmax at"),
+    b"contacts": (b"drawing form units step rmax", b"drawing step rmax"),
     b"moves": (b"code units", b"code"),
     b"check": (b"drawing form units bit rmax code", b"drawing bit rmax code"),
 }
@@ -58,6 +60,7 @@ def request(words):
         (b"bit", b"/", 1, 2000),
         (b"rmax", b"", 1, 8191),
         (b"limit", b"", 1, 32_767),
+        (b"step", b"", 1, 32_767),
     ):
         if name in values:
             taken[name] = numbers(values[name], separator, low, high)
@@ -121,6 +124,18 @@ def greatest_depth(edges, p, bit, rmax, limit):
             side = (b[0] - a[0]) * (p[1] - a[1]) - (b[1] - a[1]) * (p[0] - a[0])
             is_inside ^= (side > 0) == (a[1] <= p[1])
     return depth if is_inside else 0
+
+
+def contacts_of(edges, step):
+    """How many contacts there are."""
+    lengths = [isqrt((bx - ax) ** 2 + (by - ay) ** 2 - 1) + 1 for (ax, ay), (bx, by) in edges]
+    pieces = [-(-length // step) for length in lengths]
+    for number, count in enumerate(pieces):
+        if count > MOST_PIECES:
+            raise Refusal(3, b"input step too fine %d\n" % number)
+    if sum(pieces) + len(pieces) > MOST_CONTACTS:
+        raise Refusal(3, b"input too many contacts\n")
+    return sum(pieces) + len(pieces)
 
 
 def number_of(text):
@@ -219,6 +234,9 @@ def due(words, files):
         if command == b"probe":
             limit = taken.get(b"limit", [32_767])[0]
             return (0,), b"depth %d\n" % greatest_depth(edges, taken[b"at"], taken[b"bit"], taken[b"rmax"][0], limit)
+        if command == b"contacts":
+            # Where there are some, their lines are judged by their form.
+            return (0,), None if contacts_of(edges, taken[b"step"][0]) else b""
         moves = moves_of(file_of(files, values[b"code"], b"code", MOST_CODE), values.get(b"units", b"mm100"))
     except UnicodeDecodeError:
         return (8,), b""

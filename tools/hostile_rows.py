@@ -9,6 +9,9 @@ import re
 COUNT = rb"(0|[1-9][0-9]*)"
 SPOT = rb",".join([rb"(0|-?[1-9][0-9]{0,4}|-?(0|[1-9][0-9]{0,4})\.[1-9])"] * 3)
 MOVE = re.compile(rb"[1-9][0-9]* " + SPOT + b" " + SPOT + rb"\n")
+CONTACT = re.compile(rb"%s %s %s/[1-9][0-9]* (left|right|none) %s -?%s,-?%s\n" % ((COUNT,) * 6))
+# The lines that are listed by a command, before its last line or alone.
+LISTED_LINES = {b"moves": MOVE, b"contacts": CONTACT}
 LOOPS_KINDS = rb" (syntax|out of range|same point|too many|short)"
 CODE_KINDS = rb" (word|number|off grid|twice|units|incremental|unplaced|out of range|long line|open comment|too many)"
 FORMS = {
@@ -17,7 +20,7 @@ FORMS = {
     (b"check", 0): rb"clear " + COUNT + rb" moves\n",
     (b"check", 1): rb"line [1-9][0-9]* (too deep|gouge edge " + COUNT + rb"|outside)\n",
     2: rb"usage\n",
-    3: rb"input (too long (drawing|code)|loops " + COUNT + LOOPS_KINDS + rb"|code line [1-9][0-9]*" + CODE_KINDS + rb")\n",
+    3: rb"input (too long (drawing|code)|loops " + COUNT + LOOPS_KINDS + rb"|code line [1-9][0-9]*" + CODE_KINDS + rb"|step too fine " + COUNT + rb"|too many contacts)\n",
     4: rb"absent (drawing|code)\n",
     5: rb"read fault\n",
     6: rb"",
@@ -34,6 +37,7 @@ LENIENT = b"(by hand)\r\n%\nG21 G90 G17\nG64 P0.1 M3 S3000 ; on\nG0 Z5.0\ng0 x 1
 PROBE = "probe --drawing=d --at=500,500 --bit=1/1 --rmax=600"
 MOVES = "moves --code=c"
 CHECK = "check --drawing=d --code=c --bit=1/1 --rmax=200"
+CONTACTS = "contacts --drawing=d --step=250 --rmax=600"
 
 # Drawings for PROBE: the bytes, the status, the line.
 DRAWINGS = [
@@ -243,6 +247,23 @@ WORDS = [
     ("probe --version", 2, "usage"),
     (PROBE, 0, "depth 500"),
     (PROBE + " --", 0, "depth 500"),
+    (CONTACTS + " --bit=1/1", 2, "usage"),
+    ("contacts --drawing=d --rmax=600", 2, "usage"),
+    ("contacts --drawing=d --step=0 --rmax=600", 2, "usage"),
+    ("contacts --drawing=d --step=32768 --rmax=600", 2, "usage"),
+    ("contacts --drawing=d --step=9 --rmax=8192", 2, "usage"),
+    ("contacts --drawing=d --step=500 --rmax=1", 0, """0 0 0/2 none 0 0,0
+0 0 1/2 left 1 500,1
+0 0 2/2 none 0 1000,0
+0 1 0/2 none 0 1000,0
+0 1 1/2 left 1 999,500
+0 1 2/2 none 0 1000,1000
+0 2 0/2 none 0 1000,1000
+0 2 1/2 left 1 500,999
+0 2 2/2 none 0 0,1000
+0 3 0/2 none 0 0,1000
+0 3 1/2 left 1 1,500
+0 3 2/2 none 0 0,0"""),
     (PROBE + " -- --", 2, "usage"),
     (PROBE + " -- d", 2, "usage"),
     (PROBE + " -", 2, "usage"),
@@ -338,7 +359,7 @@ NAMES = [
 COPIES = ["two\nlines", "naïve ☃", "two words", "--code"]
 
 # Outputs that take nothing, for answers of each kind: the words.
-UNWRITTEN = [PROBE, MOVES, CHECK, "usage", "moves --code=nothing", "moves --code=folder", "moves --code=d"]
+UNWRITTEN = [PROBE, MOVES, CHECK, CONTACTS, "usage", "moves --code=nothing", "moves --code=folder", "moves --code=d"]
 
 # Names that are read up to the limit, and how far that is.
 DRAWING_LIMIT, CODE_LIMIT = 16_777_216, 536_870_912
@@ -348,6 +369,8 @@ ENDLESS = {b"--drawing=/dev/": DRAWING_LIMIT, b"--code=/dev/zero": CODE_LIMIT}
 RING = [(b"0,0 1,1 ", 65_535), (b"2,3 4,5\n", 1)]
 # Edges that a check has to compare with each move, since they are nearer than the bit's greatest radius.
 NEAR = [(b"-9999,-9999 9999,-9999 9999,9999 -9999,9999\n", 1), (b"0,0 1,1\n", 65_000)]
+# The largest square.
+WHOLE = b"-32768,-32768 32767,-32768 32767,32767 -32768,32767\n"
 LARGE = [
     (PROBE, [(b"1", DRAWING_LIMIT)], [], 3, "input loops 0 syntax"),
     (PROBE, [(b"1", DRAWING_LIMIT + 1)], [], 3, "input too long drawing"),
@@ -366,6 +389,9 @@ LARGE = [
     (PROBE, [(b"0,0 1,1 ", 65_536), (b"9,9\n", 1)], [], 3, "input loops 524288 too many"),
     (CHECK, [(b"0,0 1,1\n", 65_536)], [(DOWN, 1)], 1, "line 4 outside"),
     (CHECK.replace("200", "8191"), NEAR, [(b"X5Y5Z1\nZ-.01\n", 1), (b"X6Z-.9\nX5Z-.01\n", 50)], 0, "clear 101 moves"),
+    (CONTACTS.replace("250", "8"), [(WHOLE, 31)], [], 0, "30 123 8192/8192 none 0 -32768,-32768"),
+    (CONTACTS.replace("250", "8"), [(WHOLE, 33)], [], 3, "input too many contacts"),
+    (CONTACTS.replace("250", "7"), [(SQUARE, 1), (WHOLE, 33)], [], 3, "input step too fine 4"),
     (MOVES, [], [(b"N1\n", 1_000_000), (b"Q", 1)], 3, "input code line 1000001 word"),
     (MOVES, [], [(b"(" + b"a" * 1022 + b")\n", 20_000)], 0, "moves 0"),
     (MOVES, [], [(b"X" + b"0" * 1023 + b"\n", 20_000)], 0, "moves 0"),
@@ -398,10 +424,10 @@ HUGE = [
 # Limits of the address space, in MiB, under which an answer may be the want of memory.
 SPACES = [*range(4, 40, 2), 48, 64, 96, 128]
 
-# What is stated of memory: so many MiB, and bytes for each byte of the files, move of the code and word; never more than the
-# last, in MiB. And of time: so many seconds, and seconds for each MiB, move, and, in a check, pair of a move and an edge.
-MEBIBYTES, BYTES_A_BYTE, BYTES_A_MOVE, BYTES_A_WORD, MOST_MEBIBYTES = 32, 1, 80, 512, 1024
-SECONDS, SECONDS_A_MEBIBYTE, SECONDS_A_MOVE, SECONDS_A_PAIR = 2, 0.05, 2e-6, 2e-7
+# What is stated of memory: so many MiB, and bytes for each byte of the files, move of the code, contact and word; never more than the
+# last, in MiB. And of time: so many seconds, and seconds for each MiB, move, contact, and, in a check, pair of a move and an edge.
+MEBIBYTES, BYTES_A_BYTE, BYTES_A_MOVE, BYTES_A_CONTACT, BYTES_A_WORD, MOST_MEBIBYTES = 32, 1, 80, 64, 512, 1024
+SECONDS, SECONDS_A_MEBIBYTE, SECONDS_A_MOVE, SECONDS_A_CONTACT, SECONDS_A_PAIR = 2, 0.05, 2e-6, 1e-5, 2e-7
 
 # What changed inputs are made of: inputs to begin with, and what is put into them.
 DRAWING_BASES = [SQUARE, ANGLE, PLATE, b"0,0 1,1", b"-5,-5 999,-5 500,999\r\n0,0 9,0 0,9\r\n", b""]
@@ -419,7 +445,8 @@ WORD_BASES = {
     "drawings": [PROBE, PROBE.replace("500,500", "501,200"), SMALL],
     "codes": [MOVES, MOVES + " --units=mm1000", MOVES + " --units=in100", MOVES + " --units=mm10"],
     "checks": [CHECK, CHECK + " --units=mm10", CHECK.replace("1/1", "2000/1999")],
-    "words": [PROBE + " --limit=7", MOVES + " --units=mm100", CHECK, APART],
+    "contacts": [CONTACTS, CONTACTS.replace("250", "1"), CONTACTS + " --units=in100"],
+    "words": [PROBE + " --limit=7", CONTACTS, MOVES + " --units=mm100", CHECK, APART],
 }
 ALPHABET = b"0123456789012345678901234567890123456789,,,,....---++     \t\t\r\n\n\n\n\n#GXYZMNgxyzFSP()%;=/\xe9"
 BREAKS = [b"\n", b"\r\n", b"\r", b" ", b"\t", b"\0", b"\xef\xbb\xbf", b"\v"]

@@ -4,6 +4,8 @@ To count a row's edges by `<` in place of `<=`, or a crossing at the point itsel
 changes nothing.
 """
 
+import math
+
 import definitions as d
 
 
@@ -33,7 +35,7 @@ def clamped_margin(bit, mv, u):
     return MARGIN(bit, d.Move(mv.line, *below), u)
 
 
-MARGIN = d.corner_margin
+MARGIN, GREATEST_FREE = d.corner_margin, d.greatest_free
 
 
 def meets_line(mv, edge):
@@ -43,6 +45,26 @@ def meets_line(mv, edge):
 def closed_row(edge, w):
     low, high = sorted((edge[0][1], edge[1][1]))
     return low < high and low <= w[1] <= high
+
+
+def length_down(edge):
+    return math.isqrt(d.squared_distance(*edge))
+
+
+def one_less(edges, contact, side, rmax):
+    return max(GREATEST_FREE(edges, contact, side, rmax) - 1, 0)
+
+
+def rounded_down(point):
+    return tuple(math.floor(z) for z in point)
+
+
+def half_down(point):
+    return tuple(math.ceil(z - d.Fraction(1, 2)) for z in point)
+
+
+def pieces_of_rounded_length(edge, step):
+    return max(1, length_down(edge) // step)
 
 
 def touches(a, b, v, w):
@@ -69,4 +91,11 @@ WRONG = {
     "touching-crosses": ("are_parted", touches),
     "last-end-inside": ("first_deep", lambda mv: mv.end.at),
     "last-edge": ("named_edge", max),
+    "length-down": ("length_up", length_down),
+    "pieces-down": ("pieces", pieces_of_rounded_length),
+    "number-one-less": ("greatest_free", one_less),
+    "disc-closed-at-edges": ("is_off_disc", lambda squared, squared_radius: squared_radius == 0 or squared > squared_radius),
+    "left-whatever-is-inside": ("is_side_taken", lambda edges, centre: True),
+    "centre-down": ("rounded", rounded_down),
+    "halves-down": ("rounded", half_down),
 }
