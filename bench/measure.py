@@ -11,12 +11,12 @@ import argparse
 import ctypes
 import filecmp
 import math
+import operator
 import os
 import shutil
 import statistics
 import sys
 import tempfile
-import time
 from dataclasses import dataclass
 from pathlib import Path
 
@@ -36,14 +36,21 @@ ENVIRONMENT = {**os.environ, "LC_ALL": "C"}
 
 PROBE_SIZES = (2_048, 16_384, 131_072)
 MOVES_SIZES = (10_000, 100_000, 1_000_000)
-FEW_EDGES = 100
-MANY_SIZES = ((100, 1_000), (1_000, 10_000), (10_000, 10_000))
+RING_SIZES = (1_000, 10_000, 100_000)
+SQUARE_ROWS = (32, 64, 128)
+MANY_MOVES = 100_000
 
-# A bit so slim that the bisection of a depth takes the most steps, over a place so far from the outline that in each of
-# them all edges are walked.
+# A bit so slim that the greatest depth is asked for most often, over a place so far from the outline that no edge is near.
 PROBE_BIT, PROBE_RMAX, PROBE_ANSWER = "1/4", "8191", "depth 32764"
 
 CHECK_BIT = "1/1"
+
+# The name plate's step and greatest radii, and those of the squares.
+PLATE_STEP, PLATE_RMAX = "20", ("300", "8191")
+SQUARES_STEP, SQUARES_RMAX = "50", "16"
+
+# Beyond so many pairs of a question and an edge the obvious method isn't run.
+MOST_PAIRS = 1_500_000_000
 
 
 class WrongRun(Exception):
@@ -59,22 +66,20 @@ class Kind:
     rmax: str
 
 
-SHORT = Kind("short", make_inputs.short_places, "200")
-LONG = Kind("long", make_inputs.long_places, "8191")
-
-
 @dataclass(frozen=True)
 class Case:
     """One line of the table: what is run, and what is run beside it."""
 
     text: str
+    # What grows from line to line, and how many pairs of a question and an edge there are.
     size: int
+    pairs: int
     files: tuple
     words: tuple
+    # How the last line begins.
     answer: str
     plain: tuple
-    boxed: tuple = ()
-    left: tuple = ()
+    moves: int = 0
 
 
 class Bench:
@@ -89,21 +94,19 @@ class Bench:
         self.folder = folder
 
     def run(self, name, words):
-        """Runs a program with its output in the file of this name in the folder."""
+        """The user and system seconds of a program that runs with its output in the file of this name in the folder."""
         flags = os.O_WRONLY | os.O_CREAT | os.O_TRUNC
         to_file = [(os.POSIX_SPAWN_OPEN, 1, str(self.folder / name), flags, 0o644)]
-        start = time.perf_counter()
         child = os.posix_spawn(words[0], words, ENVIRONMENT, file_actions=to_file)
-        _, status, _ = os.wait4(child, 0)
-        seconds = time.perf_counter() - start
+        _, status, usage = os.wait4(child, 0)
         require_success(words, status)
-        return seconds
+        return usage.ru_utime + usage.ru_stime
 
     def run_program(self, case):
         seconds = self.run("program.out", (self.program, *case.words))
         last = last_line(self.folder / "program.out")
-        if last != case.answer:
-            raise WrongRun(f"{' '.join(case.words)}: its last line is {last!r}, and not {case.answer!r}")
+        if not last.startswith(case.answer):
+            raise WrongRun(f"{' '.join(case.words)}: its last line is {last!r}, and doesn't begin with {case.answer!r}")
         return seconds
 
     def peak(self, words):
@@ -119,33 +122,43 @@ class Bench:
         require_success(words, status)
         return usage.ru_maxrss / 1024
 
-    def run_plain(self, words):
+    def run_plain(self, method, words):
         """Runs the yardstick, which has to write the same bytes as the program did."""
-        seconds = self.run("plain.out", (self.yardstick, *words))
+        seconds = self.run("plain.out", (self.yardstick, method, *words))
         if not filecmp.cmp(self.folder / "program.out", self.folder / "plain.out", shallow=False):
-            raise WrongRun(f"{' '.join(words)}: the yardstick writes other bytes than the program")
+            raise WrongRun(f"{method} {' '.join(words)}: the yardstick writes other bytes than the program")
         return seconds
 
     def measure(self, case):
-        """The seconds of the program, wc, the yardstick, and that with boxes: in turns, so that all meet the same load."""
-        runs = ([], [], [], [])
+        """The seconds of the program, wc, and the yardstick with a grid: in turns, so that all meet the same load."""
+        runs = ([], [], [])
         for _ in range(self.repeat):
             runs[0].append(self.run_program(case))
             runs[1].append(self.run("wc.out", (self.wc, *case.files)))
-            runs[2].append(self.run_plain(case.plain))
-            if case.boxed:
-                runs[3].append(self.run_plain(case.boxed))
+            runs[2].append(self.run_plain("grid", case.plain))
         return runs
+
+    def run_all(self, case):
+        """The seconds of the obvious method, run once where it isn't too long."""
+        return [self.run_plain("all", case.plain)] if 0 < case.pairs <= MOST_PAIRS else []
+
+    def run_double(self, case):
+        """The seconds of the yardstick in double precision, and how many of its lines are other ones than the program's."""
+        if case.plain[0] != "contacts":
+            return [], 0
+        seconds = [self.run("double.out", (self.yardstick, "double", *case.plain)) for _ in range(self.repeat)]
+        ours, others = ((self.folder / name).read_bytes().splitlines() for name in ("program.out", "double.out"))
+        return seconds, abs(len(ours) - len(others)) + sum(map(operator.ne, ours, others))
 
     def floor(self):
         """The seconds and the memory of a process that does nothing."""
         words = (shutil.which("true"),)
         return min(self.run("true.out", words) for _ in range(20)), self.peak(words)
 
-    def left(self, case):
-        """How many of a case's pairs the boxes don't decide."""
-        self.run("left.out", (self.yardstick, *case.left))
-        return int(last_line(self.folder / "left.out"))
+    def near(self, case):
+        """How many edges are near a move in the mean: those whose boxes meet the box of its discs."""
+        self.run("near.out", (self.yardstick, "near", *case.plain))
+        return int(last_line(self.folder / "near.out")) / case.moves
 
 
 def last_line(path):
@@ -167,46 +180,101 @@ def require_success(words, status):
         raise WrongRun(f"{' '.join(words)}: it ended with {code}")
 
 
-def probe_case(folder, edges):
-    drawing = folder / f"wide{edges}.loops"
-    make_inputs.write_drawing(drawing, edges, make_inputs.WIDE_RADIUS)
-    words = ("probe", f"--drawing={drawing}", "--at=0,0", f"--bit={PROBE_BIT}", f"--rmax={PROBE_RMAX}")
-    plain = ("probe", str(drawing), "0,0", PROBE_BIT, PROBE_RMAX)
-    return Case(f"{edges:,} edges", edges, (str(drawing),), words, PROBE_ANSWER, plain)
+def drawing_file(folder, name, make):
+    """The file of this name, which is written when it is first asked for."""
+    path = folder / f"{name}.loops"
+    if not path.exists():
+        make_inputs.write_drawing(path, make())
+    return str(path)
+
+
+def ring_file(folder, edges):
+    return drawing_file(folder, f"ring{edges}", lambda: [make_inputs.ring(edges)])
+
+
+def field_file(folder, stride):
+    return drawing_file(folder, f"field{stride}", lambda: make_inputs.field(stride))
 
 
 def code_file(folder, kind, moves):
     path = folder / f"{kind.name}{moves}.ngc"
     if not path.exists():
         make_inputs.write_code(path, kind.places(moves))
-    return path
+    return str(path)
+
+
+def probe_case(folder, edges):
+    drawing = ring_file(folder, edges)
+    words = ("probe", f"--drawing={drawing}", "--at=0,0", f"--bit={PROBE_BIT}", f"--rmax={PROBE_RMAX}")
+    plain = ("probe", drawing, "0,0", PROBE_BIT, PROBE_RMAX)
+    return Case(f"{edges:,} edges", edges, edges, (drawing,), words, PROBE_ANSWER, plain)
 
 
 def moves_case(folder, moves):
-    path = str(code_file(folder, LONG, moves))
-    return Case(f"{moves:,} moves", moves, (path,), ("moves", f"--code={path}"), f"moves {moves}", ("moves", path))
+    path = code_file(folder, RING_LONG, moves)
+    return Case(f"{moves:,} moves", moves, 0, (path,), ("moves", f"--code={path}"), f"moves {moves}", ("moves", path))
 
 
-def check_case(folder, kind, moves, edges):
-    drawing, path = folder / f"ring{edges}.loops", code_file(folder, kind, moves)
-    if not drawing.exists():
-        make_inputs.write_drawing(drawing, edges)
-    files = (str(drawing), str(path))
-    words = ("check", f"--drawing={drawing}", f"--code={path}", f"--bit={CHECK_BIT}", f"--rmax={kind.rmax}")
-    plain, boxed, left = ((how, *files, CHECK_BIT, kind.rmax) for how in ("check", "check-box", "left"))
+def check_case(folder, kind, moves, drawing, edges, size):
+    code = code_file(folder, kind, moves)
+    words = ("check", f"--drawing={drawing}", f"--code={code}", f"--bit={CHECK_BIT}", f"--rmax={kind.rmax}")
+    plain = ("check", drawing, code, CHECK_BIT, kind.rmax)
     text = f"{moves:,} moves, {edges:,} edges"
-    return Case(text, moves * edges, files, words, f"clear {moves} moves", plain, boxed, left)
+    return Case(text, size, moves * edges, (drawing, code), words, f"clear {moves} moves", plain, moves)
+
+
+def ring_case(folder, kind, edges):
+    return check_case(folder, kind, MANY_MOVES, ring_file(folder, edges), edges, edges)
+
+
+def field_case(folder, kind, stride):
+    edges = make_inputs.field_edges(stride)
+    return check_case(folder, kind, MANY_MOVES, field_file(folder, stride), edges, edges)
+
+
+def many_case(folder, moves):
+    stride = make_inputs.FIELD_STRIDES[1]
+    return check_case(folder, FIELD_SHORT, moves, field_file(folder, stride), make_inputs.field_edges(stride), moves)
+
+
+def contacts_case(drawing, loops, step, rmax):
+    edges = [(points[i - 1], points[i]) for points in loops for i in range(len(points))]
+    contacts = sum(math.ceil(math.dist(*edge) / int(step)) + 1 for edge in edges)
+    words = ("contacts", f"--drawing={drawing}", f"--step={step}", f"--rmax={rmax}")
+    plain = ("contacts", drawing, step, rmax)
+    text, answer = f"{contacts:,} contacts, {len(edges):,} edges", f"{len(loops) - 1} {len(edges) - 1} "
+    return Case(text, contacts, contacts * len(edges), (drawing,), words, answer, plain)
+
+
+def plate_case(folder, rmax):
+    plate = make_inputs.name_plate()
+    return contacts_case(drawing_file(folder, "plate", lambda: plate), plate, PLATE_STEP, rmax)
+
+
+def squares_case(folder, rows):
+    squares = make_inputs.squares(rows)
+    return contacts_case(drawing_file(folder, f"squares{rows}", lambda: squares), squares, SQUARES_STEP, SQUARES_RMAX)
+
+
+RING_SHORT = Kind("ring_short", make_inputs.short_places, "200")
+RING_LONG = Kind("ring_long", make_inputs.long_places, "8191")
+FIELD_SHORT = Kind("field_short", make_inputs.field_rounds, "200")
+FIELD_LONG = Kind("field_long", make_inputs.field_streets, "8191")
 
 
 def series(folder, count):
     """The cases of each series by its name, from small to large; each is made when its turn comes."""
+    strides, rings = make_inputs.FIELD_STRIDES[:count], RING_SIZES[:count]
     yield "`probe`", (probe_case(folder, edges) for edges in PROBE_SIZES[:count])
     yield "`moves`", (moves_case(folder, moves) for moves in MOVES_SIZES[:count])
-    for kind in (SHORT, LONG):
-        few = (check_case(folder, kind, moves, FEW_EDGES) for moves in MOVES_SIZES[:count])
-        yield f"`check`, {kind.name} moves, few edges", few
-        many = (check_case(folder, kind, moves, edges) for moves, edges in MANY_SIZES[:count])
-        yield f"`check`, {kind.name} moves, many edges", many
+    yield "`check`, ring, short moves", (ring_case(folder, RING_SHORT, edges) for edges in rings)
+    yield "`check`, ring, long moves", (ring_case(folder, RING_LONG, edges) for edges in rings)
+    yield "`check`, field, short moves", (field_case(folder, FIELD_SHORT, stride) for stride in strides)
+    yield "`check`, field, long moves", (field_case(folder, FIELD_LONG, stride) for stride in strides)
+    yield "`check`, field, many moves", (many_case(folder, moves) for moves in MOVES_SIZES[:count])
+    for rmax in PLATE_RMAX:
+        yield f"`contacts`, name plate, `--rmax={rmax}`", (plate_case(folder, rmax) for _ in range(1))
+    yield "`contacts`, squares", (squares_case(folder, rows) for rows in SQUARE_ROWS[:count])
 
 
 def growth(before, size, seconds):
@@ -223,19 +291,21 @@ def beside(seconds, others):
 
 def row(bench, name, case, before):
     """Measures the case and prints its line."""
-    program, wc, plain, boxed = bench.measure(case)
+    program, wc, grid = bench.measure(case)
+    double, off = bench.run_double(case)
     cells = (
         name,
         case.text,
         f"{sum(os.path.getsize(file) for file in case.files) / 1e6:.2f}",
-        f"{100 * bench.left(case) / case.size:.0f} %" if case.left else "-",
+        f"{bench.near(case):.1f}" if case.moves else "-",
         f"{min(program):.4f}",
         f"{statistics.median(program):.4f}",
         growth(before, case.size, min(program)),
         f"{bench.peak((bench.program, *case.words)):.1f}",
         beside(min(program), wc),
-        beside(min(program), plain),
-        beside(min(program), boxed),
+        beside(min(program), grid),
+        beside(min(program), bench.run_all(case)),
+        f"{beside(min(program), double)}, {off} off" if double else "-",
     )
     print("| " + " | ".join(cells) + " |", flush=True)
     return case.size, min(program)
@@ -260,9 +330,9 @@ def print_head(bench):
     print(f"{machine()}; load {load:.1f} at the start; {bench.repeat} runs of each.")
     print(f"A process that does nothing takes {seconds:.4f} s and {megabytes:.1f} MiB here.")
     print()
-    heads = ("command", "input", "MB", "left by boxes", "best s", "median s", "growth", "peak MiB")
-    print("| " + " | ".join((*heads, "`wc`", "plain Rust", "plain Rust with boxes")) + " |")
-    print("|---" * 11 + "|", flush=True)
+    heads = ("command", "input", "MB", "near", "best s", "median s", "growth", "peak MiB")
+    print("| " + " | ".join((*heads, "`wc`", "plain Rust, grid", "plain Rust, all edges", "in doubles")) + " |")
+    print("|---" * 12 + "|", flush=True)
 
 
 def measure_all(options):
