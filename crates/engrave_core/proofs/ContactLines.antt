@@ -6,11 +6,11 @@ use Rattle.engrave_core.specs.Commands.Contacts.{AreContactLines, IsContactLine}
 
 pub line_more : (loops : List (List GridPoint)) (rmax : ℕ) (contacts : List Contact) (text : List ℕ) (c : Contact) (line : List ℕ)
     → AreContactLines loops rmax contacts text → IsContactLine loops rmax c line → AreContactLines loops rmax (contacts ++ c ∷ []) (text ++ line)
-line_more loops rmax [] text c line none here = record { front = line; rest = []; is = ap (λ t. t ++ line) none ∙ sym (append-nil line); first = here; others = refl }
-line_more loops rmax (first ∷ contacts) text c line parted here = record {
-  front = parted.front;
-  rest = parted.rest ++ line;
-  is = ap (λ t. t ++ line) parted.is ∙ append_assoc parted.front parted.rest line;
-  first = parted.first;
-  others = line_more loops rmax contacts parted.rest c line parted.others here;
+line_more loops rmax [] text c line none here = record { first = line; second = []; joined = ap (λ t. t ++ line) none ∙ sym (append-nil line); is_first = here; is_second = refl }
+line_more loops rmax (contact ∷ contacts) text c line lines here = record {
+  first = lines.first;
+  second = lines.second ++ line;
+  joined = ap (λ t. t ++ line) lines.joined ∙ append_assoc lines.first lines.second line;
+  is_first = lines.is_first;
+  is_second = line_more loops rmax contacts lines.second c line lines.is_second here;
 }

@@ -3,8 +3,9 @@ use Rattle.std.proofs.Common.{◌≡◌, inl, inr, ℕ, zero, suc, List, ◌++�
 use Rattle.plane_exact.specs.Cone.{Cone}
 use Rattle.plane_exact.specs.Nodes.{GridNode}
 use Rattle.plane_exact.specs.declared.point.Seg.{Seg}
+use Rattle.engrave_model.specs.Lists.{AreJoined}
 use Rattle.link_split.specs.Law.{SameLinkLaw}
-use Rattle.link_split.specs.Link.{AreJoined, IsFreeLink, IsHalvedLink, IsLink, IsObstructed}
+use Rattle.link_split.specs.Link.{IsFreeLink, IsHalvedLink, IsLink, IsObstructed}
 use Rattle.link_split.specs.declared.step.Step.{Step}
 use Rattle.link_split.proofs.Halfway.{same_halfway, whole_or_midway}
 

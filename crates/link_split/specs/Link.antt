@@ -8,6 +8,7 @@ use Rattle.plane_exact.specs.Nodes.{GridNode, node_place}
 use Rattle.plane_exact.specs.declared.moves.Move.{Move}
 use Rattle.plane_exact.specs.declared.point.Seg.{Seg}
 use Rattle.swept_move.specs.Clear.{IsClear}
+use Rattle.engrave_model.specs.Lists.{AreJoined}
 use Rattle.link_split.specs.Midway.{HasNoMidway, IsMidway}
 use Rattle.link_split.specs.declared.step.Step.{Step}
 use Rattle.link_split.specs.declared.step.Step.TheVariants.{To, Lift}
@@ -50,14 +51,6 @@ pub record IsLiftedLink (edges : List Seg) (cone : Cone) (p q : GridNode) (Whole
   pub obstructed : IsObstructed edges cone p q
   pub whole : Whole
   pub lift : steps ≡ Lift q ∷ []
-
--- the steps are some of the one kind, and then some of the other
-pub record AreJoined (First Second : List Step → Type 0) (steps : List Step) : Type 0 where
-  pub first : List Step
-  pub second : List Step
-  pub joined : steps ≡ first ++ second
-  pub is_first : First first
-  pub is_second : Second second
 
 -- the way is obstructed and may be halved: a link to the node halfway, each a `Half`, and then one from there
 pub record IsHalvedLink (edges : List Seg) (cone : Cone) (limit : ℕ) (Half : GridNode → GridNode → List Step → Type 0) (p q : GridNode) (steps : List Step) : Type 0 where

@@ -1,6 +1,7 @@
 -- What is due for `contacts`: a line for each contact, with the greatest disc that touches the outline there.
 use Rattle.std.specs.Prelude.{◌≡◌, ◌⊎◌, ℕ, ℤ, pos, List, [], ◌∷◌, ◌++◌, codes}
 use Rattle.engrave_model.specs.Drawing.{edges_of}
+use Rattle.engrave_model.specs.Lists.{AreJoined}
 use Rattle.grid_num.specs.Written.{decimal_text}
 use Rattle.job_words.specs.declared.request.DrawingWords.{DrawingWords}
 use Rattle.plane_exact.specs.Plane.{GridPoint}
@@ -49,18 +50,10 @@ pub record IsContactLine (loops : List (List GridPoint)) (rmax : ℕ) (c : Conta
   pub tangent : IsTangentOf loops c rmax disc
   pub is : line ≡ contact_text c ++ disc_text disc
 
--- a text that First says of a front part, and Rest of what follows it
-pub record IsParted (First Rest : List ℕ → Type 0) (text : List ℕ) : Type 0 where
-  pub front : List ℕ
-  pub rest : List ℕ
-  pub is : text ≡ front ++ rest
-  pub first : First front
-  pub others : Rest rest
-
 -- a line for each of the contacts
 abbrev pub AreContactLines : List (List GridPoint) → ℕ → List Contact → List ℕ → Type 0
 AreContactLines loops rmax [] text = text ≡ []
-AreContactLines loops rmax (c ∷ contacts) text = IsParted (IsContactLine loops rmax c) (AreContactLines loops rmax contacts) text
+AreContactLines loops rmax (c ∷ contacts) text = AreJoined (IsContactLine loops rmax c) (AreContactLines loops rmax contacts) text
 
 -- Done, with a line for each contact of the drawing
 pub record IsTouched (step rmax : ℕ) (loops : List (List GridPoint)) (outcome : Outcome) (text : List ℕ) : Type 0 where
