@@ -1,5 +1,5 @@
 -- Four boxes at once: what the lanes of a vector and the bits of a mask say.
-use Rattle.std.proofs.Common.{◌≡◌, ℕ, ◌+◌, ◌*◌, ◌/◌, ◌%◌, ◌^◌, Bool, true, false, cond, ◌&&◌, refl, ℤ, SFits, to_z, of_z, w32, to_z-of_z}
+use Rattle.std.proofs.Common.{◌≡◌, ℕ, ◌+◌, ◌*◌, ◌/◌, ◌%◌, ◌^◌, ◌≤◌, Bool, true, false, cond, ◌&&◌, refl, ℤ, SFits, to_z, of_z, w32, to_z-of_z, arith}
 use Rattle.std.specs.Prelude.{if◌then◌else◌, bit_and, int_le}
 use lib.Lanes.{top}
 use Rattle.lane_kernels.specs.Boxes.{hit_of, overlap}
@@ -50,92 +50,26 @@ box_lane q b f g =
 abbrev pub number_of : (a b c d : Bool) → ℕ
 number_of a b c d = bit a + 2 * (bit b + 2 * (bit c + 2 * bit d))
 
-pub four_bits : (a b c d : Bool) → (bit a + 2 * (bit b + 2 * (bit c + 2 * (bit d + 2 * 0)))) % 18446744073709551616 ≡ number_of a b c d
-four_bits true true true true = refl
-four_bits true true true false = refl
-four_bits true true false true = refl
-four_bits true true false false = refl
-four_bits true false true true = refl
-four_bits true false true false = refl
-four_bits true false false true = refl
-four_bits true false false false = refl
-four_bits false true true true = refl
-four_bits false true true false = refl
-four_bits false true false true = refl
-four_bits false true false false = refl
-four_bits false false true true = refl
-four_bits false false true false = refl
-four_bits false false false true = refl
-four_bits false false false false = refl
+bit_most : (a : Bool) → bit a ≤ 1
+bit_most true = omega arith
+bit_most false = omega arith
 
-pub bit_a : (a b c d : Bool) → number_of a b c d / 2 ^ 0 % 2 ≡ bit a
-bit_a true true true true = refl
-bit_a true true true false = refl
-bit_a true true false true = refl
-bit_a true true false false = refl
-bit_a true false true true = refl
-bit_a true false true false = refl
-bit_a true false false true = refl
-bit_a true false false false = refl
-bit_a false true true true = refl
-bit_a false true true false = refl
-bit_a false true false true = refl
-bit_a false true false false = refl
-bit_a false false true true = refl
-bit_a false false true false = refl
-bit_a false false false true = refl
-bit_a false false false false = refl
+module _ (a b c d : Bool) where
+  -- of four bits as numbers
+  from : (P : (a b c d : ℕ) → Type 0) → ((a b c d : ℕ) → a ≤ 1 → b ≤ 1 → c ≤ 1 → d ≤ 1 → P a b c d) → P (bit a) (bit b) (bit c) (bit d)
+  from P of = of (bit a) (bit b) (bit c) (bit d) (bit_most a) (bit_most b) (bit_most c) (bit_most d)
 
-pub bit_b : (a b c d : Bool) → number_of a b c d / 2 ^ 1 % 2 ≡ bit b
-bit_b true true true true = refl
-bit_b true true true false = refl
-bit_b true true false true = refl
-bit_b true true false false = refl
-bit_b true false true true = refl
-bit_b true false true false = refl
-bit_b true false false true = refl
-bit_b true false false false = refl
-bit_b false true true true = refl
-bit_b false true true false = refl
-bit_b false true false true = refl
-bit_b false true false false = refl
-bit_b false false true true = refl
-bit_b false false true false = refl
-bit_b false false false true = refl
-bit_b false false false false = refl
+  pub four_bits : (bit a + 2 * (bit b + 2 * (bit c + 2 * (bit d + 2 * 0)))) % 18446744073709551616 ≡ number_of a b c d
+  four_bits = from (λ a b c d. (a + 2 * (b + 2 * (c + 2 * (d + 2 * 0)))) % 18446744073709551616 ≡ a + 2 * (b + 2 * (c + 2 * d))) (λ a b c d on_a on_b on_c on_d. omega arith)
 
-pub bit_c : (a b c d : Bool) → number_of a b c d / 2 ^ 2 % 2 ≡ bit c
-bit_c true true true true = refl
-bit_c true true true false = refl
-bit_c true true false true = refl
-bit_c true true false false = refl
-bit_c true false true true = refl
-bit_c true false true false = refl
-bit_c true false false true = refl
-bit_c true false false false = refl
-bit_c false true true true = refl
-bit_c false true true false = refl
-bit_c false true false true = refl
-bit_c false true false false = refl
-bit_c false false true true = refl
-bit_c false false true false = refl
-bit_c false false false true = refl
-bit_c false false false false = refl
+  pub bit_a : number_of a b c d / 2 ^ 0 % 2 ≡ bit a
+  bit_a = from (λ a b c d. (a + 2 * (b + 2 * (c + 2 * d))) / 1 % 2 ≡ a) (λ a b c d on_a on_b on_c on_d. omega arith)
 
-pub bit_d : (a b c d : Bool) → number_of a b c d / 2 ^ 3 % 2 ≡ bit d
-bit_d true true true true = refl
-bit_d true true true false = refl
-bit_d true true false true = refl
-bit_d true true false false = refl
-bit_d true false true true = refl
-bit_d true false true false = refl
-bit_d true false false true = refl
-bit_d true false false false = refl
-bit_d false true true true = refl
-bit_d false true true false = refl
-bit_d false true false true = refl
-bit_d false true false false = refl
-bit_d false false true true = refl
-bit_d false false true false = refl
-bit_d false false false true = refl
-bit_d false false false false = refl
+  pub bit_b : number_of a b c d / 2 ^ 1 % 2 ≡ bit b
+  bit_b = from (λ a b c d. (a + 2 * (b + 2 * (c + 2 * d))) / 2 % 2 ≡ b) (λ a b c d on_a on_b on_c on_d. omega arith)
+
+  pub bit_c : number_of a b c d / 2 ^ 2 % 2 ≡ bit c
+  bit_c = from (λ a b c d. (a + 2 * (b + 2 * (c + 2 * d))) / 4 % 2 ≡ c) (λ a b c d on_a on_b on_c on_d. omega arith)
+
+  pub bit_d : number_of a b c d / 2 ^ 3 % 2 ≡ bit d
+  bit_d = from (λ a b c d. (a + 2 * (b + 2 * (c + 2 * d))) / 8 % 2 ≡ d) (λ a b c d on_a on_b on_c on_d. omega arith)
