@@ -4,9 +4,7 @@ use Rattle.std.specs.List.{slice_get}
 use Rattle.std.proofs.Common.{◌≡◌, ℕ, ◌<◌, List, ◌∷◌, length, Some, subst, sym}
 use Rattle.std.proofs.lemmas.List.Elements.{All-head, All-tail}
 use Rattle.std.proofs.lemmas.Option.{get_or_from_slice_get}
-use Rattle.plane_exact.specs.Plane.{GridPoint}
 use Rattle.plane_exact.specs.declared.point.Seg.{Seg}
-use Rattle.engrave_model.specs.Drawing.{edges_of}
 use Rattle.lane_kernels.specs.declared.boxes.Rect.{Rect}
 use Rattle.segment_grid.specs.Near.{AreNear}
 use Rattle.segment_grid.proofs.NearLaws.{near_there}
@@ -22,17 +20,9 @@ module _ (edges : List Seg) (e : ℕ) (all left : List ℕ) (first : all ≡ e �
   pub first_there : e < length edges
   first_there = All-head (λ e. e < length edges) e left (subst (AreNumbers edges) first ahead)
 
-  -- so the drawing that the code asks for it has it
-  pub first_of : (drawing : List (List GridPoint)) → edges_of drawing ≡ edges → e < length (edges_of drawing)
-  first_of drawing same = subst (λ es. e < length es) (sym same) first_there
-
   pub rest_ahead : AreNumbers edges left
   rest_ahead = All-tail (λ e. e < length edges) e left (subst (AreNumbers edges) first ahead)
 
--- the edge that the code read from its drawing is the one of that number
-pub read_edge : (drawing loops : List (List GridPoint)) (e : ℕ) (edge : Seg) → drawing ≡ loops → slice_get (edges_of drawing) e ≡ Some edge
-    → slice_get (edges_of loops) e ≡ Some edge
-read_edge drawing loops e edge same = subst (λ loops. slice_get (edges_of loops) e ≡ Some edge) same
-
+-- the edge that the code read is the one of that number
 pub edge_at : (edges : List Seg) (e : ℕ) (edge : Seg) → slice_get edges e ≡ Some edge → (d : Seg) → slice_index_or edges e d ≡ edge
 edge_at edges e edge read d = get_or_from_slice_get edges e edge d read

@@ -33,10 +33,10 @@ fn first_crossed(scene: &Scene, i: u32) -> Option<u32>
     requires { i < length (edges_of scene.now) }
     ensures { IsFirstCrossed (edges_of scene.now) i result }
 {
-    let first = scene.drawing().edge(i);
+    let first = scene.edge(i);
     let mut least = None;
     for j in scene.near(box_of(first)) {
-        least = lesser_crossed(least, i, j, &first, &scene.drawing().edge(j));
+        least = lesser_crossed(least, i, j, &first, &scene.edge(j));
     }
     least
 }

@@ -67,7 +67,7 @@ fn clear_near(scene: &Scene, p: Point, bit: &Bit, most: u32) -> u32
 {
     let mut depth = most;
     for e in scene.near(disc_box(p, bit, most)) {
-        depth = clear_of_edge(&scene.drawing().edge(e), p, bit, depth);
+        depth = clear_of_edge(&scene.edge(e), p, bit, depth);
     }
     depth
 }

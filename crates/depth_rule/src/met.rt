@@ -46,7 +46,7 @@ fn first_edge_met(scene: &Scene, bit: &Bit, mv: &Move) -> Option<u32>
 {
     let mut least = None;
     for e in scene.near(move_box(mv, bit)) {
-        least = lesser_met(least, e, &scene.drawing().edge(e), bit, mv);
+        least = lesser_met(least, e, &scene.edge(e), bit, mv);
     }
     least
 }

@@ -3,7 +3,7 @@ use crate::bounds::{Bounds, bounds_of_starts};
 use evenodd_region::{Rows, inside, inside_ratio, row_inside};
 use lane_kernels::Rect;
 use loops_text::Drawing;
-use plane_exact::{Point, Spot};
+use plane_exact::{Point, Seg, Spot};
 use segment_grid::{Grid, Near};
 use std::alloc::{AllocError, Global};
 use std::marker::Model;
@@ -29,9 +29,10 @@ impl Model for Scene {
 }
 
 impl Scene {
-    ghost use Rattle.std.specs.Prelude.{◌≡◌, ◌↔◌, ◌≤◌, ◌+◌, ◌-◌, ◌*◌, ◌/◌, ◌+ℤ◌, pos, [], length, IfOk, IsTrue, MatchOption};
+    ghost use Rattle.std.specs.Prelude.{◌≡◌, ◌↔◌, ◌<◌, ◌≤◌, ◌+◌, ◌-◌, ◌*◌, ◌/◌, ◌+ℤ◌, pos, [], length, Some, IfOk, IsTrue, MatchOption};
+    ghost use Rattle.std.specs.List.{slice_get};
     ghost use Rattle.plane_exact.specs.Plane.{IsCoordinate, RationalPoint, rational};
-    ghost use Rattle.engrave_model.specs.Drawing.{edges_of};
+    ghost use Rattle.engrave_model.specs.Drawing.{IsDrawing, edges_of};
     ghost use Rattle.engrave_model.specs.Inside.{IsInside};
     ghost use Rattle.engrave_model.specs.Removal.{from_tenths};
     ghost use Rattle.evenodd_region.specs.Bounds.{IsBoxOf, points_of};
@@ -57,6 +58,15 @@ impl Scene {
         ensures { result.now ≡ self.now }
     {
         &self.drawing
+    }
+
+    /// The edge with this number.
+    pub fn edge(&self, e: u32) -> Seg
+        requires { e < length (edges_of self.now) }
+        ensures edge { slice_get (edges_of self.now) e ≡ Some result }
+        ensures drawing { IsDrawing self.now }
+    {
+        self.drawing.edge(e)
     }
 
     /// The numbers of the edges whose boxes meet `q`, each once, in any order. It takes no memory.

@@ -1,41 +1,35 @@
 -- Answers the goals of `first_crossed`.
-use Rattle.std.proofs.Common.{ap, subst, inl, inr, ⊎_elim}
+use Rattle.std.proofs.Common.{subst, inl, inr, ⊎_elim}
 use Rattle.engrave_model.specs.Drawing.{edges_of}
 use Rattle.segment_grid.specs.Near.{AreNear}
-use Rattle.depth_rule.proofs.Ahead.{begun_ahead, first_of, first_there, read_edge, rest_ahead}
+use Rattle.depth_rule.proofs.Ahead.{begun_ahead, first_there, rest_ahead}
 use Rattle.depth_rule.proofs.Crossings.{IsClearBehind, IsCrossedBehind, clear_judged, clear_missed, crossed_found, edge_apart, first_crossed}
 use Rattle.depth_rule.proofs.Leasts.{least_begun, least_stepped}
 use Rattle.depth_rule.proofs.crossing.first_crossed.Goals as goal
 
 pub loop-j-init : goal.loop-j-init
 loop-j-init c =
-    let loops = c.args.scene.now in
-    let edges = edges_of loops in
+    let edges = edges_of c.args.scene.now in
     let i = c.args.i in
-    let first = c.edge-first.result in
-    let read = read_edge c.drawing.result.now loops i first c.drawing.ensures c.edge-first.ensures.edge in
     let all = c.into_iter-j-iterator.ensures.into_iter_gives in
     let near = subst (λ q. AreNear edges q c.near-j-items.result) c.box_of.ensures c.near-j-items.ensures in
     record {
       ahead = begun_ahead edges _ c.near-j-items.result _ near all;
-      far = least_begun (IsClearBehind edges i) (IsCrossedBehind edges i) edges _ c.near-j-items.result _ near all (clear_missed edges i first read);
+      far = least_begun (IsClearBehind edges i) (IsCrossedBehind edges i) edges _ c.near-j-items.result _ near all (clear_missed edges i c.edge-first.result c.edge-first.ensures.edge);
     }
 
 pub edge-requires : goal.edge-requires
-edge-requires c =
-    first_of (edges_of c.args.scene.now) c.in-Some.j c.loop-j.j-iterator c.next.new.self c.in-Some.ensures.steps c.loop-j.invariant.ahead
-    c.drawing-in-loop-j.result.now (ap edges_of c.drawing-in-loop-j.ensures)
+edge-requires c = first_there (edges_of c.args.scene.now) c.in-Some.j c.loop-j.j-iterator c.next.new.self c.in-Some.ensures.steps c.loop-j.invariant.ahead
 
 pub lesser_crossed-least-requires-clause-first : goal.lesser_crossed-least-requires-clause-first
-lesser_crossed-least-requires-clause-first c = edge_apart c.drawing.result.now c.args.i c.edge-first.result c.edge-first.ensures.drawing c.edge-first.ensures.edge
+lesser_crossed-least-requires-clause-first c = edge_apart c.args.scene.now c.args.i c.edge-first.result c.edge-first.ensures.drawing c.edge-first.ensures.edge
 
 pub lesser_crossed-least-requires-clause-second : goal.lesser_crossed-least-requires-clause-second
-lesser_crossed-least-requires-clause-second c = edge_apart c.drawing-in-loop-j.result.now c.in-Some.j c.edge.result c.edge.ensures.drawing c.edge.ensures.edge
+lesser_crossed-least-requires-clause-second c = edge_apart c.args.scene.now c.in-Some.j c.edge.result c.edge.ensures.drawing c.edge.ensures.edge
 
 pub loop-j-preserved : goal.loop-j-preserved
 loop-j-preserved c =
-    let loops = c.args.scene.now in
-    let edges = edges_of loops in
+    let edges = edges_of c.args.scene.now in
     let i = c.args.i in
     let j = c.in-Some.j in
     let all = c.loop-j.j-iterator in
@@ -43,8 +37,8 @@ loop-j-preserved c =
     let start = c.in-Some.ensures.steps in
     let first = c.edge-first.result in
     let second = c.edge.result in
-    let is_first = read_edge c.drawing.result.now loops i first c.drawing.ensures c.edge-first.ensures.edge in
-    let is_second = read_edge c.drawing-in-loop-j.result.now loops j second c.drawing-in-loop-j.ensures c.edge.ensures.edge in
+    let is_first = c.edge-first.ensures.edge in
+    let is_second = c.edge.ensures.edge in
     record {
       ahead = rest_ahead edges j all left start c.loop-j.invariant.ahead;
       far = least_stepped (IsClearBehind edges i) (IsCrossedBehind edges i) edges c.loop-j.least c.lesser_crossed-least.result j all left start
@@ -57,6 +51,4 @@ loop-j-preserved c =
 
 pub returns : goal.returns
 returns c =
-    let loops = c.args.scene.now in
-    let is_first = read_edge c.drawing.result.now loops c.args.i c.edge-first.result c.drawing.ensures c.edge-first.ensures.edge in
-    first_crossed (edges_of loops) c.args.i c.edge-first.result is_first c.loop-j.least c.loop-j.j-iterator c.in-None.ensures.steps.0 c.loop-j.invariant.far
+    first_crossed (edges_of c.args.scene.now) c.args.i c.edge-first.result c.edge-first.ensures.edge c.loop-j.least c.loop-j.j-iterator c.in-None.ensures.steps.0 c.loop-j.invariant.far

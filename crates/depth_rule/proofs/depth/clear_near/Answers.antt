@@ -1,7 +1,7 @@
 -- Answers the goals of `clear_near`.
-use Rattle.std.proofs.Common.{ap, subst, sym}
+use Rattle.std.proofs.Common.{subst, sym}
 use Rattle.engrave_model.specs.Drawing.{edges_of}
-use Rattle.depth_rule.proofs.Ahead.{begun_ahead, edge_at, first_of, first_there, read_edge, rest_ahead}
+use Rattle.depth_rule.proofs.Ahead.{begun_ahead, edge_at, first_there, rest_ahead}
 use Rattle.depth_rule.proofs.Deepening.{IsSoFar, begun, ended, stepped}
 use Rattle.depth_rule.proofs.depth.clear_near.Goals as goal
 
@@ -17,21 +17,17 @@ loop-e-init c =
     }
 
 pub edge-requires : goal.edge-requires
-edge-requires c =
-    first_of (edges_of c.args.scene.now) c.in-Some.e c.loop-e.e-iterator c.next.new.self c.in-Some.ensures.steps c.loop-e.invariant.ahead
-    c.drawing.result.now (ap edges_of c.drawing.ensures)
+edge-requires c = first_there (edges_of c.args.scene.now) c.in-Some.e c.loop-e.e-iterator c.next.new.self c.in-Some.ensures.steps c.loop-e.invariant.ahead
 
 pub loop-e-preserved : goal.loop-e-preserved
 loop-e-preserved c =
-    let loops = c.args.scene.now in
-    let edges = edges_of loops in
+    let edges = edges_of c.args.scene.now in
     let first = c.in-Some.ensures.steps in
     let ahead = c.loop-e.invariant.ahead in
-    let read = read_edge c.drawing.result.now loops c.in-Some.e c.edge.result c.drawing.ensures c.edge.ensures.edge in
     record {
       ahead = rest_ahead edges c.in-Some.e c.loop-e.e-iterator c.next.new.self first ahead;
       far = stepped c.args.bit.now c.args.p edges c.args.most c.loop-e.depth c.clear_of_edge-depth.result c.in-Some.e c.loop-e.e-iterator c.next.new.self
-          c.edge.result first (first_there edges c.in-Some.e c.loop-e.e-iterator c.next.new.self first ahead) (edge_at edges c.in-Some.e c.edge.result read)
+          c.edge.result first (first_there edges c.in-Some.e c.loop-e.e-iterator c.next.new.self first ahead) (edge_at edges c.in-Some.e c.edge.result c.edge.ensures.edge)
           c.clear_of_edge-depth.ensures c.loop-e.invariant.far;
     }
 

@@ -1,9 +1,9 @@
 -- Answers the goals of `first_edge_met`.
-use Rattle.std.proofs.Common.{◌≡◌, slice_index_or, ap, subst, sym, inl, inr, ⊎_elim}
+use Rattle.std.proofs.Common.{◌≡◌, slice_index_or, subst, sym, inl, inr, ⊎_elim}
 use Rattle.plane_exact.specs.declared.point.Seg.{Seg}
 use Rattle.engrave_model.specs.Drawing.{edges_of}
 use Rattle.swept_move.specs.Clear.{PassesEdge}
-use Rattle.depth_rule.proofs.Ahead.{begun_ahead, edge_at, first_of, first_there, read_edge, rest_ahead}
+use Rattle.depth_rule.proofs.Ahead.{begun_ahead, edge_at, first_there, rest_ahead}
 use Rattle.depth_rule.proofs.Leasts.{least_begun, least_stepped}
 use Rattle.depth_rule.proofs.Mets.{IsMetAt, IsPassedAt, first_of_all}
 use Rattle.depth_rule.proofs.met.first_edge_met.Goals as goal
@@ -20,20 +20,16 @@ loop-e-init c =
     }
 
 pub edge-requires : goal.edge-requires
-edge-requires c =
-    first_of (edges_of c.args.scene.now) c.in-Some.e c.loop-e.e-iterator c.next.new.self c.in-Some.ensures.steps c.loop-e.invariant.ahead
-    c.drawing.result.now (ap edges_of c.drawing.ensures)
+edge-requires c = first_there (edges_of c.args.scene.now) c.in-Some.e c.loop-e.e-iterator c.next.new.self c.in-Some.ensures.steps c.loop-e.invariant.ahead
 
 pub loop-e-preserved : goal.loop-e-preserved
 loop-e-preserved c =
-    let loops = c.args.scene.now in
-    let edges = edges_of loops in
+    let edges = edges_of c.args.scene.now in
     let cone = c.args.bit.now in
     let mv = c.args.mv.now in
     let e = c.in-Some.e in
     let judged = c.lesser_met-least.ensures in
-    let is : (d : Seg) → c.edge.result ≡ slice_index_or edges e d =
-    λ d. sym (edge_at edges e c.edge.result (read_edge c.drawing.result.now loops e c.edge.result c.drawing.ensures c.edge.ensures.edge) d) in
+    let is : (d : Seg) → c.edge.result ≡ slice_index_or edges e d = λ d. sym (edge_at edges e c.edge.result c.edge.ensures.edge d) in
     record {
       ahead = rest_ahead edges e c.loop-e.e-iterator c.next.new.self c.in-Some.ensures.steps c.loop-e.invariant.ahead;
       far = least_stepped (IsPassedAt edges cone mv) (IsMetAt edges cone mv) edges c.loop-e.least c.lesser_met-least.result e c.loop-e.e-iterator c.next.new.self
