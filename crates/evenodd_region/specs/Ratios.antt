@@ -1,6 +1,5 @@
--- Rational points as the code keeps them, the ways to them, and the products of two ways.
-use Rattle.std.specs.Prelude.{ℤ, pos, ◌+ℤ◌, ◌-ℤ◌, ◌*ℤ◌}
-use Rattle.integer_algebra.specs.Ranges.{IsUpTo}
+-- Rational points as the code keeps them, and the products of two ways to them.
+use Rattle.std.specs.Prelude.{ℤ, ◌+ℤ◌, ◌-ℤ◌, ◌*ℤ◌}
 use Rattle.plane_exact.specs.Plane.{GridPoint, RationalPoint}
 use Rattle.evenodd_region.specs.declared.ratio.RatioPoint.{RatioPoint}
 
@@ -11,10 +10,6 @@ rational_of p = record { x = p.x; y = p.y; over = p.over; positive = p.range.pos
 -- the point with its coordinates exchanged, so that its column is a row
 abbrev pub exchanged : RationalPoint → RationalPoint
 exchanged w = record { x = w.y; y = w.x; over = w.over; positive = w.positive }
-
--- from -73,727 * 2^30 to 73,727 * 2^30, as the ways from grid points to points near the grid are, times the denominator
-abbrev pub IsWay : ℤ → Type 0
-IsWay z = IsUpTo (pos 79163763458048) z
 
 -- (w - a) × (w - b), times the square of w's denominator
 abbrev pub turn : RationalPoint → GridPoint → GridPoint → ℤ

@@ -16,8 +16,10 @@ mod rows;
 mod sides;
 #[cfg(test)]
 mod tests;
+mod way;
 mod words;
 
 pub use grid::is_inside;
 pub use marks::row_inside;
 pub use rows::{Rows, inside, inside_ratio};
+pub use way::scaled_way;

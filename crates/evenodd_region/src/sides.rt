@@ -1,13 +1,14 @@
 // How an edge lies to a rational point near the grid. All products are of ways times the point's denominator, which
 // stay below 2^47; 64 bits hold those, and 128 bits their products.
-ghost use Rattle.std.specs.Prelude.{◌≡◌, ◌↔◌, ◌+ℤ◌, ◌-ℤ◌, ◌*ℤ◌, pos, ◌≤ℤ◌, int_le, int_lt, true, false, IsTrue};
-ghost use Rattle.plane_exact.specs.Plane.{IsBetween, IsCoordinate};
+ghost use Rattle.std.specs.Prelude.{◌≡◌, ◌↔◌, ◌-ℤ◌, ◌*ℤ◌, pos, int_le, int_lt, true, false, IsTrue};
+ghost use Rattle.plane_exact.specs.Plane.{IsBetween};
 ghost use Rattle.engrave_model.specs.Inside.{is_at_or_below, is_counted};
-ghost use Rattle.evenodd_region.specs.Lookup.{IsNearGrid, IsOfRow};
-ghost use Rattle.evenodd_region.specs.Ratios.{IsWay, exchanged, rational_of, turn, facing};
+ghost use Rattle.evenodd_region.specs.Lookup.{IsOfRow};
+ghost use Rattle.evenodd_region.specs.Ratios.{exchanged, rational_of, turn, facing};
 
 use crate::ratio::RatioPoint;
-use plane_exact::{Point, Seg};
+use crate::way::scaled_way;
+use plane_exact::{Point, Seg, Way};
 
 // A rational point and the row that it belongs to, which the rows of edges are compared with, without any product.
 #[derive(Clone, Copy)]
@@ -25,70 +26,28 @@ pub(crate) struct CellPoint {
     ghost across: { IsOfRow column (exchanged (rational_of on.at)) },
 }
 
-// The way from a grid point to a rational point, times the denominator.
-#[derive(Clone, Copy)]
-struct Way {
-    x: i64,
-    y: i64,
-    ghost across: { IsWay x },
-    ghost up: { IsWay y },
-}
+// Up to 73,727 * 2^30 in either coordinate, as the ways to these points are, times the denominator.
+type RatioWay = Way<79_163_763_458_048>;
 
-// One coordinate of a way: from `from` to z / over, times `over`.
-fn scaled_difference(z: i64, over: i64, from: i32) -> i64
-    requires positive { pos 1 ≤ℤ over }
-    requires small { over ≤ℤ pos 1073741824 }
-    requires near { IsNearGrid z over }
-    requires on { IsCoordinate from }
-    ensures value { result ≡ z -ℤ over *ℤ from }
-    ensures range { IsWay result }
-{
-    z - over * from as i64
-}
-
-fn way_to(p: RatioPoint, from: Point) -> Way
+fn way_to(p: RatioPoint, from: Point) -> RatioWay
     ensures across { result.x ≡ p.x -ℤ p.over *ℤ from.x }
     ensures up { result.y ≡ p.y -ℤ p.over *ℤ from.y }
 {
-    Way {
-        x: scaled_difference(p.x, p.over, from.x()),
-        y: scaled_difference(p.y, p.over, from.y()),
-    }
-}
-
-// In 128 bits: two ways have 47 bits each.
-fn product(u: i64, v: i64) -> i128
-    ensures { result ≡ u *ℤ v }
-{
-    u as i128 * v as i128
-}
-
-impl Way {
-    fn cross(self, other: Way) -> i128
-        ensures { result ≡ self.x *ℤ other.y -ℤ self.y *ℤ other.x }
-    {
-        product(self.x, other.y) - product(self.y, other.x)
-    }
-
-    fn dot(self, other: Way) -> i128
-        ensures { result ≡ self.x *ℤ other.x +ℤ self.y *ℤ other.y }
-    {
-        product(self.x, other.x) + product(self.y, other.y)
-    }
+    scaled_way(from, p.x, p.y, p.over)
 }
 
 // (p - a) × (p - b), times the square of the denominator of p.
 fn turn(p: RatioPoint, a: Point, b: Point) -> i128
     ensures { result ≡ turn (rational_of p) a b }
 {
-    way_to(p, a).cross(way_to(p, b))
+    way_to(p, a).wide_cross(way_to(p, b))
 }
 
 // (p - a) · (p - b), times the same.
 fn facing(p: RatioPoint, a: Point, b: Point) -> i128
     ensures { result ≡ facing (rational_of p) a b }
 {
-    way_to(p, a).dot(way_to(p, b))
+    way_to(p, a).wide_dot(way_to(p, b))
 }
 
 // Whether the row of the point is among those from `a` to `b`, as it is where the point lies between them.

@@ -7,6 +7,7 @@ pub mod Wide
 pub mod Signs
 -- `dist_at_least`
 pub mod Fractions
+pub mod Ways
 pub mod Nearest
 pub mod Apart
 -- `passes_through`

@@ -1,13 +1,10 @@
 -- Ranges of the differences of coordinates and of their products, and that 64 bits hold them.
-use Rattle.std.proofs.Common.{◌≡◌, lit<, ℤ, pos, ◌+ℤ◌, ◌-ℤ◌, ◌*ℤ◌, ◌≤ℤ◌, ◌<ℤ◌, int_le, true, false, FitsSigned, of_z, w32, w64, arith, refl, ap, ap₂, sym, subst, ◌∙◌}
+use Rattle.std.proofs.Common.{◌≡◌, ℤ, pos, ◌-ℤ◌, ◌≤ℤ◌, ◌<ℤ◌, int_le, true, false, FitsSigned, of_z, w32, w64, arith, refl, ap, ap₂, sym, subst, ◌∙◌}
 use borrow.Author.Differences.{true_is_le}
 use Rattle.std.proofs.lemmas.Int.{ints}
-use Rattle.integer_algebra.proofs.Order.{product_up_to, square_nonneg, sum_up_to}
-use Rattle.plane_exact.specs.Distance.{square}
 use Rattle.plane_exact.specs.Plane.{IsCoordinate}
-use Rattle.plane_exact.specs.Product.{IsDifference, IsProduct, IsSquaredLength}
-use Rattle.plane_exact.specs.declared.product.Offset.{Offset}
-use Rattle.plane_exact.proofs.Stored.{IsStoredUpTo, narrow, wide, read_is, difference_stored, sum_stored}
+use Rattle.plane_exact.specs.Product.{IsDifference, IsProduct}
+use Rattle.plane_exact.proofs.Stored.{narrow, wide, read_is}
 
 narrow_is : (z : ℤ) → IsCoordinate z → narrow z ≡ z
 narrow_is z on = read_is w32 z z (omega (arith, ints)) refl
@@ -35,13 +32,6 @@ difference_taken b a on_b on_a =
     plain : IsTaken b a (b -ℤ a)
     plain = record { fits = fits; value = wide_is (b -ℤ a) fits; range = subst IsDifference (sym (wide_is (b -ℤ a) fits)) (record { low = omega (arith, ints); high = omega (arith, ints) }) }
 
--- the cross and the dot product as the code makes them
-pub cross_is : (u v : Offset) → IsStoredUpTo w64 (pos 8589672450) (u.x *ℤ v.y -ℤ u.y *ℤ v.x) (wide (wide u.x *ℤ wide v.y) -ℤ wide (wide u.y *ℤ wide v.x))
-cross_is u v = difference_stored w64 65535 (lit< tt) u.x v.y u.y v.x u.across v.up u.up v.across
-
-pub dot_is : (u v : Offset) → IsStoredUpTo w64 (pos 8589672450) (u.x *ℤ v.x +ℤ u.y *ℤ v.y) (wide (wide u.x *ℤ wide v.x) +ℤ wide (wide u.y *ℤ wide v.y))
-dot_is u v = sum_stored w64 65535 (lit< tt) u.x v.x u.y v.y u.across v.across u.up v.up
-
 -- the code's test that a product is at most 0, passed or failed
 pub not_above : (r d : ℤ) → IsProduct r → r ≡ d → int_le (wide r) (pos 0) ≡ true → d ≤ℤ pos 0
 not_above r d range e t = let is = wide_is r (omega (arith, ints)) in omega (arith, ints)
@@ -59,12 +49,3 @@ read_zero r d range e t = omega (arith, ints)
 
 pub zero_read : (r d : ℤ) → IsProduct r → r ≡ d → d ≡ pos 0 → of_z w64 r ≡ 0
 zero_read r d range e z = omega (arith, ints)
-
--- the square of an offset's length
-pub length_within : (a b z : ℤ) → IsDifference a → IsDifference b → z ≡ square a +ℤ square b → IsSquaredLength z
-length_within a b z on_a on_b is =
-    let p = square_nonneg a in
-    let q = square_nonneg b in
-    let range = sum_up_to _ _ _ _ (product_up_to (pos 65535) (pos 65535) a a on_a on_a) (product_up_to (pos 65535) (pos 65535) b b on_b on_b) in
-    let high = range.high in
-    record { low = omega (arith, ints); high = omega (arith, ints) }

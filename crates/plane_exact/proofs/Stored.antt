@@ -1,7 +1,7 @@
 -- Whole numbers that the code stores in so many bits: what is read again, and that they hold a sum of two products.
 use mir.Syntax.{Width, w32, w64, w128}
 use mir.Val.{hbits}
-use Rattle.std.proofs.Common.{◌≡◌, ℕ, zero, suc, ◌+◌, ◌*◌, ◌<◌, ◌≤◌, ◌^◌, ℤ, pos, negsuc, ◌+ℤ◌, ◌-ℤ◌, ◌*ℤ◌, FitsSigned, to_z, of_z, arith, refl, ap₂, sym, subst, ◌∙◌}
+use Rattle.std.proofs.Common.{◌≡◌, ℕ, ◌*◌, ◌<◌, ◌^◌, ℤ, pos, negsuc, ◌+ℤ◌, ◌-ℤ◌, ◌*ℤ◌, FitsSigned, to_z, of_z, arith, refl, ap₂, sym, subst, ◌∙◌}
 use Rattle.std.proofs.lemmas.Int.{ints, to_z-of_z}
 use Rattle.integer_algebra.specs.Ranges.{IsUpTo}
 use Rattle.integer_algebra.proofs.Order.{product_up_to, sum_up_to, difference_up_to}
@@ -40,29 +40,37 @@ pub record IsStoredUpTo (w : Width) (most t z : ℤ) : Type 0 where
   pub value : read w z ≡ t
   pub range : IsUpTo most (read w z)
 
-self_le : (m : ℕ) → m ≤ m * m
-self_le zero = omega arith
-self_le (suc n) = omega arith
+pub stored_up_to : (w : Width) (most : ℕ) (t z : ℤ) → z ≡ t → IsUpTo (pos most) t → most < 2 ^ hbits w → IsStoredUpTo w (pos most) t z
+stored_up_to w most t z is range small =
+    let held = stored w t z is (fits_up_to w most t small range) in
+    record { fits = held.fits; value = held.value; range = subst (IsUpTo (pos most)) (sym held.value) range }
 
--- ---- sums of two products, whose factors are at most m in size
+-- ---- products of two numbers, the first at most m and the second at most n in size, and sums of two products
 
-module _ (w : Width) (m : ℕ) (small : m * m + m * m < 2 ^ hbits w) where
-  product_is : (a b : ℤ) → IsUpTo (pos m) a → IsUpTo (pos m) b → read w (read w a *ℤ read w b) ≡ a *ℤ b
-  product_is a b on_a on_b =
-      let fits : (z : ℤ) → IsUpTo (pos m) z → FitsSigned w z = λ z on. fits_up_to w m z (omega (arith, self_le m)) on in
-      let is : read w a *ℤ read w b ≡ a *ℤ b = ap₂ (λ y z. y *ℤ z) (read_is w a a (fits a on_a) refl) (read_is w b b (fits b on_b) refl) in
-      (stored w _ _ is (fits_up_to w (m * m) (a *ℤ b) (omega arith) (product_up_to (pos m) (pos m) a b on_a on_b))).value
+module _ (w : Width) (m n : ℕ) (m_small : m < 2 ^ hbits w) (n_small : n < 2 ^ hbits w) (small : 2 * (m * n) < 2 ^ hbits w) where
+  pub product_stored : (a b : ℤ) → IsUpTo (pos m) a → IsUpTo (pos n) b → IsStored w (a *ℤ b) (read w a *ℤ read w b)
+  product_stored a b on_a on_b =
+      let is : read w a *ℤ read w b ≡ a *ℤ b =
+      ap₂ (λ y z. y *ℤ z) (read_is w a a (fits_up_to w m a m_small on_a) refl) (read_is w b b (fits_up_to w n b n_small on_b) refl)
+      in
+      stored w _ _ is (fits_up_to w (m * n) (a *ℤ b) (omega arith) (product_up_to (pos m) (pos n) a b on_a on_b))
 
-  sum_is : (t z : ℤ) → z ≡ t → IsUpTo (pos (m * m) +ℤ pos (m * m)) t → IsStoredUpTo w (pos (m * m) +ℤ pos (m * m)) t z
+  sum_is : (t z : ℤ) → z ≡ t → IsUpTo (pos (m * n) +ℤ pos (m * n)) t → IsStoredUpTo w (pos (2 * (m * n))) t z
   sum_is t z is range =
-      let held = stored w t z is (fits_up_to w (m * m + m * m) t small range) in
-      record { fits = held.fits; value = held.value; range = subst (IsUpTo (pos (m * m) +ℤ pos (m * m))) (sym held.value) range }
+      let low = range.low in
+      let high = range.high in
+      stored_up_to w (2 * (m * n)) t z is (record { low = omega (arith, ints); high = omega (arith, ints) }) small
 
-  module _ (a b c d : ℤ) (on_a : IsUpTo (pos m) a) (on_b : IsUpTo (pos m) b) (on_c : IsUpTo (pos m) c) (on_d : IsUpTo (pos m) d) where
-    pub sum_stored : IsStoredUpTo w (pos (m * m) +ℤ pos (m * m)) (a *ℤ b +ℤ c *ℤ d) (read w (read w a *ℤ read w b) +ℤ read w (read w c *ℤ read w d))
-    sum_stored = sum_is _ _ (ap₂ (λ y z. y +ℤ z) (product_is a b on_a on_b) (product_is c d on_c on_d))
-        (sum_up_to _ _ _ _ (product_up_to _ _ a b on_a on_b) (product_up_to _ _ c d on_c on_d))
+  module _ (a b c d : ℤ) (on_a : IsUpTo (pos m) a) (on_b : IsUpTo (pos n) b) (on_c : IsUpTo (pos m) c) (on_d : IsUpTo (pos n) d) where
+    -- by what the code has for the products
+    pub sum_of : (x y : ℤ) → x ≡ a *ℤ b → y ≡ c *ℤ d → IsStoredUpTo w (pos (2 * (m * n))) (a *ℤ b +ℤ c *ℤ d) (x +ℤ y)
+    sum_of x y x_is y_is = sum_is _ _ (ap₂ (λ y z. y +ℤ z) x_is y_is) (sum_up_to _ _ _ _ (product_up_to _ _ a b on_a on_b) (product_up_to _ _ c d on_c on_d))
 
-    pub difference_stored : IsStoredUpTo w (pos (m * m) +ℤ pos (m * m)) (a *ℤ b -ℤ c *ℤ d) (read w (read w a *ℤ read w b) -ℤ read w (read w c *ℤ read w d))
-    difference_stored = sum_is _ _ (ap₂ (λ y z. y -ℤ z) (product_is a b on_a on_b) (product_is c d on_c on_d))
-        (difference_up_to _ _ _ _ (product_up_to _ _ a b on_a on_b) (product_up_to _ _ c d on_c on_d))
+    pub difference_of : (x y : ℤ) → x ≡ a *ℤ b → y ≡ c *ℤ d → IsStoredUpTo w (pos (2 * (m * n))) (a *ℤ b -ℤ c *ℤ d) (x -ℤ y)
+    difference_of x y x_is y_is = sum_is _ _ (ap₂ (λ y z. y -ℤ z) x_is y_is) (difference_up_to _ _ _ _ (product_up_to _ _ a b on_a on_b) (product_up_to _ _ c d on_c on_d))
+
+    pub sum_stored : IsStoredUpTo w (pos (2 * (m * n))) (a *ℤ b +ℤ c *ℤ d) (read w (read w a *ℤ read w b) +ℤ read w (read w c *ℤ read w d))
+    sum_stored = sum_of _ _ (product_stored a b on_a on_b).value (product_stored c d on_c on_d).value
+
+    pub difference_stored : IsStoredUpTo w (pos (2 * (m * n))) (a *ℤ b -ℤ c *ℤ d) (read w (read w a *ℤ read w b) -ℤ read w (read w c *ℤ read w d))
+    difference_stored = difference_of _ _ (product_stored a b on_a on_b).value (product_stored c d on_c on_d).value

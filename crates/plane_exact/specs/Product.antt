@@ -1,6 +1,6 @@
 -- The cross and the dot product of the ways from a grid point to two others.
 use Rattle.std.specs.Prelude.{ℤ, pos, ◌+ℤ◌, ◌-ℤ◌, ◌*ℤ◌}
-use Rattle.integer_algebra.specs.Ranges.{IsUpTo, IsWithin}
+use Rattle.integer_algebra.specs.Ranges.{IsUpTo}
 use Rattle.plane_exact.specs.Plane.{GridPoint}
 
 -- (a - o) × (b - o): above 0 where b lies left of the line from o through a, 0 where it lies on it
@@ -18,7 +18,3 @@ IsDifference z = IsUpTo (pos 65535) z
 -- from -2 * 65535^2 to 2 * 65535^2, as the products of the ways between grid points are
 abbrev pub IsProduct : ℤ → Type 0
 IsProduct z = IsUpTo (pos 8589672450) z
-
--- from 0 to 2 * 65535^2, as the square of such a way's length is
-abbrev pub IsSquaredLength : ℤ → Type 0
-IsSquaredLength z = IsWithin (pos 0) (pos 8589672450) z

@@ -13,6 +13,7 @@ mod node;
 mod point;
 mod product;
 mod segment;
+mod way;
 
 pub use bit::{Bit, MOST_RADIUS, MOST_SLOPE};
 pub use distance::dist_at_least;
@@ -22,3 +23,4 @@ pub use node::{Chain, Node};
 pub use point::{Point, Seg};
 pub use product::{Offset, cross, dot, offset_from};
 pub use segment::passes_through;
+pub use way::Way;

@@ -1,4 +1,4 @@
--- The products of ways in tenths, as the code makes them.
+-- Ways in tenths and their products, as the code makes them.
 use mir.Syntax.{w32, w64}
 use Rattle.std.proofs.Common.{◌≡◌, ℕ, ℤ, pos, ◌+ℤ◌, ◌-ℤ◌, ◌*ℤ◌, arith, lit<, ap₂, ◌∙◌}
 use Rattle.std.proofs.lemmas.Int.{ints}
@@ -6,20 +6,10 @@ use Rattle.plane_exact.specs.Plane.{IsCoordinate}
 use Rattle.plane_exact.specs.Heights.{IsFineCoordinate}
 use Rattle.swept_move.specs.Range.{IsFineProduct, IsFineWay}
 use Rattle.integer_algebra.specs.Ranges.{IsUpTo}
-use Rattle.swept_move.specs.declared.way.Way.{Way}
-use Rattle.swept_move.proofs.Widths.{IsRead, answer, called, held, minus, plain, plus, read, times}
+use Rattle.swept_move.proofs.Widths.{IsRead, answer, called, held, minus, plain, read, times}
 
 abbrev pub read_way : {z : ℤ} → IsFineWay z → IsRead 655350 (held w64 z) z
 read_way on = read w64 (plain on) (lit< tt)
-
-product : (a b : ℤ) → IsFineWay a → IsFineWay b → IsRead 429483622500 (held w64 (held w64 a *ℤ held w64 b)) (a *ℤ b)
-product a b on_a on_b = read w64 (times (read_way on_a) (read_way on_b)) (lit< tt)
-
-pub dot_is : (u v : Way) → IsRead 858967245000 (held w64 (held w64 u.x *ℤ held w64 v.x) +ℤ held w64 (held w64 u.y *ℤ held w64 v.y)) (u.x *ℤ v.x +ℤ u.y *ℤ v.y)
-dot_is u v = plus (product u.x v.x u.across v.across) (product u.y v.y u.up v.up)
-
-pub cross_is : (u v : Way) → IsRead 858967245000 (held w64 (held w64 u.x *ℤ held w64 v.y) -ℤ held w64 (held w64 u.y *ℤ held w64 v.x)) (u.x *ℤ v.y -ℤ u.y *ℤ v.x)
-cross_is u v = minus (product u.x v.y u.across v.up) (product u.y v.x u.up v.across)
 
 -- ---- differences of coordinates
 

@@ -6,7 +6,7 @@ ghost use Rattle.swept_move.specs.Range.{IsFineCoefficient, IsFineProduct, IsFin
 ghost use Rattle.swept_move.specs.Part.{with_half};
 
 use crate::clearance::Clearance;
-use crate::way::Way;
+use crate::way::FineWay;
 use plane_exact::Bit;
 
 // The square of SN or SD, times a product.
@@ -41,7 +41,13 @@ fn depths(a: i64, b: i64) -> i64
 
 // Along a move whose tip is at first the way `from_corner` from the corner and `depth` deep, and which goes the way `path` and
 // deeper by `descent`.
-pub fn clearance(bit: &Bit, from_corner: Way, path: Way, depth: i64, descent: i64) -> Clearance
+pub fn clearance(
+    bit: &Bit,
+    from_corner: FineWay,
+    path: FineWay,
+    depth: i64,
+    descent: i64,
+) -> Clearance
     requires depth { IsFineWay depth }
     requires descent { IsFineWay descent }
     ensures { with_half result.a result.half result.c ≡ margin_of bit.now from_corner.x from_corner.y path.x path.y depth descent }

@@ -10,7 +10,7 @@ use crate::coefficients::clearance;
 use crate::distance::is_disc_off;
 use crate::moments::{Moments, deep_moments};
 use crate::sides::{are_opposite, side_at};
-use crate::way::{Way, height, way_along, way_between, way_from};
+use crate::way::{FineWay, height, way_along, way_between, way_from};
 use plane_exact::{Bit, Point, Seg, Spot};
 
 // With what the tests against every edge need of it.
@@ -18,7 +18,7 @@ use plane_exact::{Bit, Point, Seg, Spot};
 pub struct DeepMove {
     from: Spot,
     to: Spot,
-    path: Way,
+    path: FineWay,
     part: Moments,
     ghost across: { path.x ≡ to.at.x -ℤ from.at.x },
     ghost up: { path.y ≡ to.at.y -ℤ from.at.y },
@@ -92,7 +92,7 @@ impl DeepMove {
 
     // Whether the ends of its part below the surface lie strictly on opposite sides of the line along a way, from a point of which
     // its start is the way `from`.
-    fn crosses_line(&self, from: Way, along: Way) -> bool
+    fn crosses_line(&self, from: FineWay, along: FineWay) -> bool
         ensures { IsTrue result ↔ ((side_by self.now.part.over self.now.part.first along.x along.y from.x from.y self.now.path.x self.now.path.y
             *ℤ side_by self.now.part.over self.now.part.last along.x along.y from.x from.y self.now.path.x self.now.path.y) <ℤ pos 0) }
     {

@@ -8,7 +8,7 @@ ghost use Rattle.integer_algebra.specs.Ranges.{IsUpTo};
 ghost use Rattle.swept_move.specs.Clear.{tenfold_edge};
 
 use crate::clearance::product;
-use crate::way::{Way, way_along, way_from};
+use crate::way::{FineWay, way_along, way_from};
 use plane_exact::{Bit, Seg, Spot};
 
 // Whether the disc that the bit cuts at the surface, where its tip is at the spot, holds no point of the edge. The nearest point of the
@@ -46,7 +46,7 @@ fn reach_at(bit: &Bit, spot: Spot) -> i64
 }
 
 // Whether the way is at least `reach / sd` long.
-fn is_long(way: Way, reach: i64, sd: u32) -> bool
+fn is_long(way: FineWay, reach: i64, sd: u32) -> bool
     requires reach { IsUpTo (pos 655340000) reach }
     requires sd { sd ≤ 2000 }
     ensures { IsTrue result ↔ ((reach *ℤ reach) ≤ℤ ((way.x *ℤ way.x +ℤ way.y *ℤ way.y) *ℤ (pos sd *ℤ pos sd))) }
@@ -56,7 +56,7 @@ fn is_long(way: Way, reach: i64, sd: u32) -> bool
 
 // Whether the line along a way is at least `reach / sd` from the end of another, which begins on it: its height above the line,
 // times the length of the first, is the cross product.
-fn is_line_off(from: Way, along: Way, reach: i64, sd: u32) -> bool
+fn is_line_off(from: FineWay, along: FineWay, reach: i64, sd: u32) -> bool
     requires reach { IsUpTo (pos 655340000) reach }
     requires sd { sd ≤ 2000 }
     ensures { IsTrue result ↔ (((reach *ℤ reach) *ℤ (along.x *ℤ along.x +ℤ along.y *ℤ along.y)) ≤ℤ (((along.x *ℤ from.y -ℤ along.y *ℤ from.x) *ℤ pos sd) *ℤ ((along.x *ℤ from.y -ℤ along.y *ℤ from.x) *ℤ pos sd))) }

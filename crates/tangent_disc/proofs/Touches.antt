@@ -7,7 +7,7 @@ use Rattle.integer_algebra.proofs.Order.{product_up_to, root_le, square_nonneg, 
 use Rattle.plane_exact.specs.Distance.{square}
 use Rattle.plane_exact.specs.Product.{dot_of}
 use Rattle.plane_exact.specs.declared.point.Seg.{Seg}
-use Rattle.plane_exact.proofs.Stored.{IsStoredUpTo, wide}
+use Rattle.plane_exact.proofs.Stored.{IsStoredUpTo, stored_up_to, wide}
 use Rattle.plane_exact.proofs.Ranges.{wide_is}
 use Rattle.evenodd_region.specs.Lookup.{IsNearGrid}
 use Rattle.tangent_disc.specs.Tangent.{IsEdgePoint, centre_over, normal, point_x, point_y}
@@ -18,7 +18,7 @@ use Rattle.tangent_disc.specs.declared.disc.Side.TheVariants.{Left, Right, Nowhe
 use Rattle.tangent_disc.specs.declared.edge_point.EdgePoint.{EdgePoint}
 use Rattle.tangent_disc.specs.declared.open_disc.OpenDisc.{OpenDisc}
 use Rattle.tangent_disc.specs.declared.ways.Progress.{Progress}
-use Rattle.tangent_disc.proofs.Reach.{kept, product_kept}
+use Rattle.tangent_disc.proofs.Reach.{product_kept}
 
 -- a normal is no longer than its edge
 normal_length : (side : Side) (e : Seg) → (square (normal side e).x +ℤ square (normal side e).y) ≤ℤ dot_of e.a e.b e.b
@@ -105,7 +105,7 @@ module _ (a b : ℤ) (on_a : IsStep a) (on_b : IsStep b) where
       product_kept 759242752 759242752 (wide z) (wide z) z z (wide_is z (omega (arith, ints))) (wide_is z (omega (arith, ints))) on on (lit< tt)
 
   pub size_kept : IsStoredUpTo w64 (pos 1152899112929067008) (square a +ℤ square b) (wide (wide a *ℤ wide a) +ℤ wide (wide b *ℤ wide b))
-  size_kept = kept 1152899112929067008 _ _ (ap₂ (λ y z. y +ℤ z) (square_kept a on_a).value (square_kept b on_b).value)
+  size_kept = stored_up_to w64 1152899112929067008 _ _ (ap₂ (λ y z. y +ℤ z) (square_kept a on_a).value (square_kept b on_b).value)
       (sum_up_to _ _ _ _ (product_up_to most_over most_over a a on_a on_a) (product_up_to most_over most_over b b on_b on_b)) (lit< tt)
 
 -- ---- the disc j

@@ -1,7 +1,8 @@
 -- Ranges of the numbers that the discs of a contact are computed with.
 --
 -- The denominator of a disc's centre is n L, at most 8192 * 92,681 = 759,242,752. Coordinates of a centre are at most 40,960 from 0,
--- and those of an edge's point 32,768, so that a way between them is at most 73,727 long in either coordinate.
+-- and those of an edge's point 32,768, so that a way between them is at most 73,727 long in either coordinate. Its cross and its dot
+-- product with the way along an edge stay below 2^63, and the square of such a product below 2^126.
 use Rattle.std.specs.Prelude.{ℤ, pos, negsuc, ◌*ℤ◌, ◌≤ℤ◌}
 use Rattle.integer_algebra.specs.Ranges.{IsUpTo, IsWithin}
 use Rattle.evenodd_region.specs.Lookup.{IsNearGrid}
@@ -25,14 +26,6 @@ IsStep z = IsUpTo most_over z
 -- the square of the denominator, at most
 abbrev pub most_squared : ℤ
 most_squared = pos 576449556464533504
-
--- one coordinate of the way from a point of the grid to a centre, times the denominator
-abbrev pub IsWay : ℤ → Type 0
-IsWay z = IsUpTo (pos 55976690376704) z
-
--- the cross or the dot product of such a way and the way between two points of the grid: below 2^63, so that its square is below 2^126
-abbrev pub IsTurn : ℤ → Type 0
-IsTurn z = IsUpTo (pos 7336864807674593280) z
 
 -- the numbers of an open disc: the centre is near the grid, and the radius at most 8191
 pub record IsOpenDisc (x y over reach : ℤ) : Type 0 where

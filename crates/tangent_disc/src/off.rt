@@ -8,7 +8,8 @@ ghost use Rattle.tangent_disc.specs.OpenDisc.{IsOff, centre_of};
 
 use crate::open_disc::OpenDisc;
 use crate::rounding::grid_floor;
-use crate::ways::{Way, scaled_difference, times};
+use crate::ways::{DiscWay, times};
+use evenodd_region::scaled_way;
 use lane_kernels::Rect;
 use plane_exact::{MOST_RADIUS, Offset, Point, Seg, offset_from};
 
@@ -31,25 +32,22 @@ impl OpenDisc {
     }
 
     // The way from the grid point to the centre, times the denominator.
-    fn way_from(&self, p: Point) -> Way
+    fn way_from(&self, p: Point) -> DiscWay
         ensures across { result.x ≡ self.now.x -ℤ self.now.over *ℤ p.x }
         ensures up { result.y ≡ self.now.y -ℤ self.now.over *ℤ p.y }
     {
-        Way {
-            x: scaled_difference(self.x, self.over, p.x()),
-            y: scaled_difference(self.y, self.over, p.y()),
-        }
+        scaled_way(p, self.x, self.y, self.over)
     }
 
     // Whether a way so long leads out of the disc.
-    fn is_far(&self, way: Way) -> bool
+    fn is_far(&self, way: DiscWay) -> bool
         ensures { IsTrue result ↔ (self.now.reach ≤ℤ (square way.x +ℤ square way.y)) }
     {
-        self.reach <= way.length_squared()
+        self.reach <= way.wide_dot(way)
     }
 
     // Whether the line of the edge keeps out of the disc: its distance from the centre, times the edge's length, is the cross product.
-    fn is_line_far(&self, start: Way, along: Offset) -> bool
+    fn is_line_far(&self, start: DiscWay, along: Offset) -> bool
         ensures { IsTrue result ↔ ((self.now.reach *ℤ (square along.x +ℤ square along.y)) ≤ℤ square (start.x *ℤ along.y -ℤ start.y *ℤ along.x)) }
     {
         let height = i128::from(start.cross(along));

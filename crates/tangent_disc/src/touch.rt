@@ -9,7 +9,7 @@ use crate::disc::Side;
 use crate::edge_point::EdgePoint;
 use crate::open_disc::OpenDisc;
 use crate::ways::{Progress, times};
-use plane_exact::{MOST_RADIUS, Offset, Seg, offset_from};
+use plane_exact::{MOST_RADIUS, Offset, Seg, Way, offset_from};
 
 // The centres of these discs lie on a line through the contact: the centre of the disc j is the contact and j steps, over a common
 // denominator.
@@ -32,15 +32,15 @@ fn turned(edge: &Seg, side: Side) -> Offset
 {
     let along = offset_from(edge.a, edge.b);
     match side {
-        Side::Left => Offset {
+        Side::Left => Way {
             x: -along.y,
             y: along.x,
         },
-        Side::Right => Offset {
+        Side::Right => Way {
             x: along.y,
             y: -along.x,
         },
-        Side::Nowhere => Offset { x: 0, y: 0 },
+        Side::Nowhere => Way { x: 0, y: 0 },
     }
 }
 

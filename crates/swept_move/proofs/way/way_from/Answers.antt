@@ -1,5 +1,5 @@
 -- Answers the goals of `way_from`.
-use Rattle.std.proofs.Common.{ap, pos, ◌-ℤ◌, ◌*ℤ◌, ◌∙◌}
+use Rattle.std.proofs.Common.{lit<, ap, pos, ◌-ℤ◌, ◌*ℤ◌, ◌∙◌}
 use Rattle.plane_exact.specs.Heights.{GridPlace}
 use Rattle.swept_move.proofs.Widths.{range}
 use Rattle.swept_move.proofs.Ways.{away}
@@ -9,6 +9,7 @@ pub invariant_of-result : goal.invariant_of-result
 invariant_of-result c =
     let on = c.spot.invariant in
     record {
+      most = lit< tt;
       across = range (away on.across c.x.ensures.range.across c.x.ensures.value);
       up = range (away on.up c.y.ensures.range.up c.y.ensures.value);
     }

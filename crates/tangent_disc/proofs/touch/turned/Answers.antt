@@ -1,5 +1,5 @@
 -- Answers the goals of `turned`.
-use Rattle.std.proofs.Common.{◌≡◌, ℤ, arith, ap}
+use Rattle.std.proofs.Common.{◌≡◌, lit<, ℤ, arith, ap}
 use Rattle.std.proofs.lemmas.Int.{ints}
 use Rattle.tangent_disc.proofs.touch.turned.Goals as goal
 use Rattle.tangent_disc.proofs.touch.turned.Goals.{in-Left, in-Right, in-Nowhere}
@@ -19,7 +19,7 @@ invariant_of-result c =
     let y_low = up.low in
     let y_high = up.high in
     elim c.match-side.branch [
-      | in-Left w ↦ let x = first w.result-is in let y = second w.result-is in record { across = record { low = omega (arith, ints); high = omega (arith, ints) }; up = record { low = omega (arith, ints); high = omega (arith, ints) } }
-      | in-Right w ↦ let x = first w.result-is in let y = second w.result-is in record { across = record { low = omega (arith, ints); high = omega (arith, ints) }; up = record { low = omega (arith, ints); high = omega (arith, ints) } }
-      | in-Nowhere w ↦ let x = first w.result-is in let y = second w.result-is in record { across = record { low = omega (arith, ints); high = omega (arith, ints) }; up = record { low = omega (arith, ints); high = omega (arith, ints) } }
+      | in-Left w ↦ let x = first w.result-is in let y = second w.result-is in record { most = lit< tt; across = record { low = omega (arith, ints); high = omega (arith, ints) }; up = record { low = omega (arith, ints); high = omega (arith, ints) } }
+      | in-Right w ↦ let x = first w.result-is in let y = second w.result-is in record { most = lit< tt; across = record { low = omega (arith, ints); high = omega (arith, ints) }; up = record { low = omega (arith, ints); high = omega (arith, ints) } }
+      | in-Nowhere w ↦ let x = first w.result-is in let y = second w.result-is in record { most = lit< tt; across = record { low = omega (arith, ints); high = omega (arith, ints) }; up = record { low = omega (arith, ints); high = omega (arith, ints) } }
     ]
