@@ -143,23 +143,23 @@ module _ (v : RationalPoint) (reach : ℤ) (e : Seg) (x y ax ay : ℤ) (along_ac
   same_length : (u w : ℤ) → x ≡ u → y ≡ w → square x +ℤ square y ≡ square u +ℤ square w
   same_length u w across up = ap₂ (λ p q. square p +ℤ square q) across up
 
-  pub start_answers : x ≡ v.x -ℤ v.over *ℤ e.a.x → y ≡ v.y -ℤ v.over *ℤ e.a.y → (x *ℤ ax +ℤ y *ℤ ay) ≤ℤ pos 0 → Yes ↔ (reach ≤ℤ (square x +ℤ square y)) → Yes ↔ IsOff v reach e
-  start_answers across up away told =
-      let dot = same_dot _ _ across up in
-      let long = same_length _ _ across up in
-      let off = off_by_start v reach e (omega (arith, ints)) in (
+  -- what was told of the length of the way, by the length of what it is
+  long_answers : (u w : ℤ) → x ≡ u → y ≡ w → (reach ≤ℤ (square u +ℤ square w)) ↔ IsOff v reach e → Yes ↔ (reach ≤ℤ (square x +ℤ square y)) → Yes ↔ IsOff v reach e
+  long_answers u w across up off told =
+      let long = same_length u w across up in (
         (λ yes. let far = told.0 yes in off.0 (omega (arith, ints))),
         (λ is. let far = off.1 is in told.1 (omega (arith, ints))),
       )
 
+  pub start_answers : x ≡ v.x -ℤ v.over *ℤ e.a.x → y ≡ v.y -ℤ v.over *ℤ e.a.y → (x *ℤ ax +ℤ y *ℤ ay) ≤ℤ pos 0 → Yes ↔ (reach ≤ℤ (square x +ℤ square y)) → Yes ↔ IsOff v reach e
+  start_answers across up away told =
+      let dot = same_dot _ _ across up in
+      long_answers _ _ across up (off_by_start v reach e (omega (arith, ints))) told
+
   pub finish_answers : x ≡ v.x -ℤ v.over *ℤ e.b.x → y ≡ v.y -ℤ v.over *ℤ e.b.y → pos 0 ≤ℤ (x *ℤ ax +ℤ y *ℤ ay) → Yes ↔ (reach ≤ℤ (square x +ℤ square y)) → Yes ↔ IsOff v reach e
   finish_answers across up near told =
       let dot = same_dot _ _ across up in
-      let long = same_length _ _ across up in
-      let off = off_by_finish v reach e (omega (arith, ints)) in (
-        (λ yes. let far = told.0 yes in off.0 (omega (arith, ints))),
-        (λ is. let far = off.1 is in told.1 (omega (arith, ints))),
-      )
+      long_answers _ _ across up (off_by_finish v reach e (omega (arith, ints))) told
 
   pub line_answers : (fx fy : ℤ) → x ≡ v.x -ℤ v.over *ℤ e.a.x → y ≡ v.y -ℤ v.over *ℤ e.a.y → fx ≡ v.x -ℤ v.over *ℤ e.b.x → fy ≡ v.y -ℤ v.over *ℤ e.b.y
       → pos 0 <ℤ (x *ℤ ax +ℤ y *ℤ ay) → (fx *ℤ ax +ℤ fy *ℤ ay) <ℤ pos 0
