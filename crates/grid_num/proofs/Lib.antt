@@ -1,5 +1,7 @@
 -- The lemmas of the crate.
 pub mod Digits
+pub mod Front
+pub mod Points
 pub mod Powers
 pub mod Runs
 pub mod Sides

@@ -1,22 +1,21 @@
 -- The text of a number of grid units, and the number that is read from it.
 use Rattle.std.specs.Prelude.{decimal, unsigned_abs, negsuc}
-use Rattle.std.proofs.Common.{◌≡◌, ℕ, zero, suc, ◌+◌, ◌*◌, ◌/◌, ◌%◌, ◌<◌, ◌≤◌, ◌^◌, Bool, true, false, not, cond, eqb, List, [], ◌∷◌, ◌++◌, length, get_or, take, drop, set, ℤ, pos, Ok, sym, ap, ◌∙◌, refl, arith, append_assoc, length-append, lit<}
+use Rattle.std.proofs.Common.{◌≡◌, ℕ, zero, suc, ◌+◌, ◌*◌, ◌/◌, ◌%◌, ◌<◌, ◌≤◌, ◌^◌, Bool, true, false, List, [], ◌∷◌, ◌++◌, length, get_or, drop, set, ℤ, pos, Ok, sym, ap, ◌∙◌, refl, arith, length-append, lit<}
 use Rattle.std.specs.Char.{is_ascii_digit, digit_value}
-use Rattle.std.specs.List.{position_or_len, before_first, after_first}
 use Rattle.std.specs.Str.{all_ascii_digits}
 use Rattle.std.specs.Str.Parse.{digits_value_after}
 use Rattle.std.proofs.Math.Arith.{mod-mul}
 use Rattle.std.proofs.Math.Nat.{div-div-eq-div-mul, div-le_self, div-one, mod-lt, mod-one, mul-div_cancel, mul-mod_left, pow-suc, pow-succ'}
-use Rattle.std.proofs.Math.Seq.{take-length}
-use Rattle.std.proofs.lemmas.Bool.{and_from, and_parts, le-leb, le-ltb, ne_eqb}
+use Rattle.std.proofs.lemmas.Bool.{and_from, and_parts, le-leb, ne_eqb}
 use Rattle.std.proofs.lemmas.Bool.Decides.{nat_tests}
 use Rattle.std.proofs.lemmas.Fmt.{decimal_digit, decimal_nonempty, decimal_step, digits_decimal, digits_value-decimal, length-decimal-le}
-use Rattle.std.proofs.lemmas.List.{append-nil, drop-set, drop_all, drop_at, drop_more, length_push, take_at}
+use Rattle.std.proofs.lemmas.List.{append-nil, drop-set, drop_more}
 use Rattle.std.proofs.lemmas.Str.Parse.{numerals_by_value, tells_all_ascii_digits}
-use Rattle.grid_num.specs.Decimal.{PlainNumber, counted_digits, decimal_by, decimal_number, decimal_times, times_scale, unsigned_decimal}
+use Rattle.grid_num.specs.Decimal.{PlainNumber, decimal_by, decimal_number, decimal_times, times_scale, unsigned_decimal}
 use Rattle.grid_num.specs.Written.{decimal_text, fraction_text, last_digits, size_text, zeros_of}
+use Rattle.grid_num.proofs.Points.{cut_behind, cut_nowhere, decimal_by-short}
 use Rattle.grid_num.proofs.Powers.{power_pos}
-use Rattle.grid_num.proofs.Runs.{IsDigit-from_test, all_ascii_digits-append, counted_digits-le, digits_value_after-append}
+use Rattle.grid_num.proofs.Runs.{IsDigit-from_test, all_ascii_digits-append, digits_value_after-append}
 
 -- ---- the digits
 decimal_all : (n : ℕ) → n < 2 ^ 64 → all_ascii_digits (decimal n) ≡ true
@@ -48,38 +47,10 @@ value_with_last (suc places) n =
     front ∙ ap (λ m. digits_value_after 10 m (last_digits places (n / 10)) * 10 + digit_value (48 + n % 10)) before ∙ ap (λ m. m * 10 + digit_value (48 + n % 10)) (value_with_last places (n / 10)) ∙ omega (arith, value)
 
 -- ---- the point
-abbrev is_point : ℕ → Bool
-is_point byte = eqb byte 46
-
-no_point : (byte : ℕ) → is_ascii_digit byte ≡ true → is_point byte ≡ false
-no_point byte digit = grind (arith, nat_tests)
-
-point_behind : (digits rest : List ℕ) → all_ascii_digits digits ≡ true → position_or_len is_point (digits ++ 46 ∷ rest) ≡ length digits
-point_behind [] rest all = refl
-point_behind (byte ∷ digits) rest all =
-    let parts = and_parts _ _ all in
-    ap (λ b. cond (not b) (1 + position_or_len is_point (digits ++ 46 ∷ rest)) 0) (no_point byte parts.0) ∙ omega (arith, point_behind digits rest parts.1)
-
-point_nowhere : (digits : List ℕ) → all_ascii_digits digits ≡ true → position_or_len is_point digits ≡ length digits
-point_nowhere [] all = refl
-point_nowhere (byte ∷ digits) all =
-    let parts = and_parts _ _ all in
-    ap (λ b. cond (not b) (1 + position_or_len is_point digits) 0) (no_point byte parts.0) ∙ omega (arith, point_nowhere digits parts.1)
-
 cut_at_point : (negative : Bool) (digits : List ℕ) (places n : ℕ) → all_ascii_digits digits ≡ true → unsigned_decimal negative (digits ++ fraction_text places n) ≡ decimal_by negative digits (last_digits places n)
 cut_at_point negative digits zero n all =
-    let point = point_nowhere digits all in
-    let before : before_first is_point digits ≡ digits = ap (λ i. take i digits) point ∙ take-length digits in
-    let behind : after_first is_point digits ≡ [] = drop_all _ digits (omega (arith, point)) in
-    ap (unsigned_decimal negative) (append-nil digits) ∙ ap (λ whole. decimal_by negative whole (after_first is_point digits)) before ∙ ap (decimal_by negative digits) behind
-cut_at_point negative digits (suc places) n all =
-    let rest = last_digits (suc places) n in
-    let point = point_behind digits rest all in
-    let end : length (digits ++ 46 ∷ []) ≡ position_or_len is_point (digits ++ 46 ∷ rest) + 1 = omega (arith, length_push digits 46, point) in
-    let before : before_first is_point (digits ++ 46 ∷ rest) ≡ digits = take_at digits (46 ∷ rest) _ (sym point) in
-    let behind : after_first is_point (digits ++ 46 ∷ rest) ≡ rest =
-    ap (drop (position_or_len is_point (digits ++ 46 ∷ rest) + 1)) (sym (append_assoc digits (46 ∷ []) rest)) ∙ drop_at (digits ++ 46 ∷ []) rest _ end in
-    ap (λ whole. decimal_by negative whole (after_first is_point (digits ++ 46 ∷ rest))) before ∙ ap (decimal_by negative digits) behind
+    ap (unsigned_decimal negative) (append-nil digits) ∙ cut_nowhere negative digits all
+cut_at_point negative digits (suc places) n all = cut_behind negative digits (last_digits (suc places) n) all
 
 -- ---- reading it back
 abbrev number_with : Bool → ℕ → ℕ → PlainNumber
@@ -90,14 +61,10 @@ decimal_by-digits negative places n few fits =
     let quotient : n / 10 ^ places < 2 ^ 64 = omega (arith, div-le_self n (10 ^ places)) in
     let front = decimal (n / 10 ^ places) in
     let fraction = last_digits places n in
-    let all : all_ascii_digits (front ++ fraction) ≡ true = all_ascii_digits-append front fraction ∙ and_from _ _ (decimal_all (n / 10 ^ places) quotient) (last_digits_all places n) in
-    let count : length (front ++ fraction) ≡ length front + length fraction = length-append front fraction in
-    let some : 1 ≤ length (front ++ fraction) = omega (arith, count, decimal_nonempty (n / 10 ^ places) quotient) in
-    let short : counted_digits (front ++ fraction) ≤ 27 =
-    omega (arith, count, length-last_digits places n, counted_digits-le (front ++ fraction), length-decimal-le 20 (n / 10 ^ places) (lit< tt) (omega arith) quotient) in
-    let value : digits_value_after 10 0 (front ++ fraction) ≡ n =
-    digits_value_after-append 0 front fraction ∙ ap (λ m. digits_value_after 10 m fraction) (decimal_value (n / 10 ^ places) quotient) ∙ value_with_last places n in
-    rw (le-leb _ _ some, all, le-ltb _ _ short, value, length-last_digits places n) refl
+    let size = length-last_digits places n in
+    let some = decimal_nonempty (n / 10 ^ places) quotient in
+    let short = length-decimal-le 20 (n / 10 ^ places) (lit< tt) (omega arith) quotient in
+    decimal_by-short negative front fraction (decimal_all (n / 10 ^ places) quotient) (last_digits_all places n) (omega (arith, some)) (omega (arith, size, short)) ∙ rw (decimal_value (n / 10 ^ places) quotient, value_with_last places n, size) refl
 
 starts_with_digit : (digits rest : List ℕ) → all_ascii_digits digits ≡ true → 0 < length digits → decimal_number (digits ++ rest) ≡ unsigned_decimal false (digits ++ rest)
 starts_with_digit [] rest all some = absurd (omega arith)

@@ -4,7 +4,9 @@ ghost use Rattle.std.specs.Str.{all_ascii_digits};
 ghost use Rattle.std.specs.List.{after_first, before_first};
 ghost use Rattle.grid_num.specs.Decimal.{counted_digits, decimal_times};
 
-use crate::numeral::{counted, is_all_digits, power_of_ten, value_after};
+use crate::numeral::{
+    counted, digits_at_front, is_all_digits, power_of_ten, short_power_of_ten, value_after,
+};
 use crate::split::split_at_byte;
 use std::marker::Model;
 
@@ -23,6 +25,9 @@ pub enum NumFault {
 
 /// The most digits of a number, from the first that isn't 0 on.
 pub const MOST_DIGITS: usize = 27;
+
+// The greatest power of ten in 64 bits is `10^19`.
+const MOST_SHORT_PLACES: usize = 19;
 
 /// A plain decimal number of at most 27 digits, exactly: `digits / 10^places`, or minus that.
 #[derive(Clone, Copy, Debug, PartialEq, Eq)]
@@ -46,6 +51,9 @@ impl Model for Decimal {
 }
 
 impl Decimal {
+    ghost use Rattle.std.specs.Prelude.{true, take, IfSome};
+    ghost use Rattle.std.specs.List.{list_all};
+    ghost use Rattle.grid_num.specs.Front.{is_number_byte};
     ghost use Rattle.grid_num.specs.Decimal.{decimal_by, decimal_number, is_tenths, times_scale, unsigned_decimal};
 
     /// The number that the text writes. `NotNumber` where it isn't an optional `+` or `-` and digits with at most
@@ -59,6 +67,55 @@ impl Decimal {
             [b'-', rest @ ..] => Decimal::unsigned(true, rest),
             _ => Decimal::unsigned(false, text),
         }
+    }
+
+    /// The number that the text begins with, and how many bytes write it. None where there is no number, and also where there is
+    /// one that `read` may yet take: with a `+`, with more digits than 27, or with a value of 19 digits or more.
+    // One pass over the bytes, in 64 bits, for what nearly all numbers are.
+    pub fn at_front(text: &[u8]) -> Option<(Decimal, usize)>
+        ensures value { IfSome result (λ front. decimal_number (take front.1 text.now) ≡ Ok front.0) }
+        ensures within { IfSome result (λ front. front.1 ≤ length text.now) }
+        ensures bytes { IfSome result (λ front. list_all is_number_byte (take front.1 text.now) ≡ true) }
+    {
+        match text {
+            [b'+', ..] => None,
+            [b'-', rest @ ..] => {
+                let (number, len) = Decimal::unsigned_at_front(true, rest)?;
+                Some((number, len + 1))
+            }
+            _ => Decimal::unsigned_at_front(false, text),
+        }
+    }
+
+    fn unsigned_at_front(negative: bool, text: &[u8]) -> Option<(Decimal, usize)>
+        ensures value { IfSome result (λ front. unsigned_decimal negative (take front.1 text.now) ≡ Ok front.0) }
+        ensures within { IfSome result (λ front. front.1 ≤ length text.now) }
+        ensures bytes { IfSome result (λ front. list_all is_number_byte (take front.1 text.now) ≡ true) }
+    {
+        let (whole, len) = digits_at_front(0, text);
+        if len == text.len() || text[len] != b'.' {
+            let number = Decimal::short(negative, whole, len, 0)?;
+            return Some((number, len));
+        }
+        let (digits, places) = digits_at_front(whole, &text[len + 1..]);
+        let number = Decimal::short(negative, digits, len + places, places)?;
+        Some((number, len + 1 + places))
+    }
+
+    // The number of so many digits, where it has some and not too many.
+    fn short(negative: bool, digits: u64, count: usize, places: usize) -> Option<Decimal>
+        ensures value { IfSome result (λ number. number ≡ record { negative = negative; digits = digits; places = places }) }
+        ensures some { IfSome result (λ _. 1 ≤ count) }
+        ensures few { IfSome result (λ _. count ≤ MOST_DIGITS) }
+    {
+        if count == 0 || count > MOST_DIGITS {
+            return None;
+        }
+        Some(Decimal {
+            negative,
+            digits: u128::from(digits),
+            places,
+        })
     }
 
     fn unsigned(negative: bool, text: &[u8]) -> Result<Decimal, NumFault>
@@ -151,12 +208,30 @@ fn divided_by_power(number: u128, places: usize) -> Option<u128>
     requires { number < 10 ^ 38 }
     ensures { result ≡ (if number % 10 ^ places == 0 then Some (number / 10 ^ places) else None) }
 {
+    if let Ok(short) = u64::try_from(number)
+        && places <= MOST_SHORT_PLACES
+    {
+        return Some(u128::from(short_divided_by_power(short, places)?));
+    }
     if places > 38 {
         return if number == 0 { Some(0) } else { None };
     }
     let power = power_of_ten(places);
     if number % power == 0 {
         Some(number / power)
+    } else {
+        None
+    }
+}
+
+// The same in 64 bits, where the power fits them too.
+fn short_divided_by_power(number: u64, places: usize) -> Option<u64>
+    requires { places ≤ MOST_SHORT_PLACES }
+    ensures { result ≡ (if number % 10 ^ places == 0 then Some (number / 10 ^ places) else None) }
+{
+    let divisor = short_power_of_ten(places);
+    if number % divisor == 0 {
+        Some(number / divisor)
     } else {
         None
     }
