@@ -20,10 +20,10 @@ cut_number_is [] = (refl, refl)
 cut_number_is (byte ∷ rest) = cut_by (is_number_byte byte) byte rest (prefix_len is_number_byte rest) refl (cut_number_is rest)
 
 -- behind the first byte
-tail_is : (letter : ℕ) (behind : List ℕ) → take (length (letter ∷ behind) - 1) (drop 1 (letter ∷ behind)) ≡ behind
+pub tail_is : (letter : ℕ) (behind : List ℕ) → take (length (letter ∷ behind) - 1) (drop 1 (letter ∷ behind)) ≡ behind
 tail_is letter behind = grind (arith, common_steps)
 
-rest_is : (text : List ℕ) (end : ℕ) → take (length text - end) (drop end text) ≡ drop end text
+pub rest_is : (text : List ℕ) (end : ℕ) → take (length text - end) (drop end text) ≡ drop end text
 rest_is text end = grind (arith, common_steps)
 
 pub line_words_first : (text : List ℕ) (end : ℕ) → 1 ≤ length text → end ≡ prefix_len is_number_byte (take (length text - 1) (drop 1 text)) → let behind = take (length text - 1) (drop 1 text) in line_words text ≡ record { letter = get_or text 0 0; number = take end behind } ∷ line_words (take (length behind - end) (drop end behind))

@@ -3,6 +3,7 @@ pub mod Collecting
 pub mod Faults
 pub mod Grammar
 pub mod Moves
+pub mod Plain
 pub mod Reading
 pub mod Stepping
 pub mod Within

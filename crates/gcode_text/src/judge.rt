@@ -1,7 +1,7 @@
 // Judges the words of a line in turn, from the left.
-ghost use Rattle.std.specs.Prelude.{◌≡◌, ◌≤◌, pos, neg_ℤ, true, false, MatchResult};
+ghost use Rattle.std.specs.Prelude.{◌≡◌, ◌≤◌, ◌==◌, if◌then◌else◌, pos, neg_ℤ, true, false, codes, MatchResult};
 ghost use Rattle.grid_num.specs.Judging.{and_then};
-ghost use Rattle.gcode_text.specs.Grammar.{empty_block, in_range, is_one_of, judge_g, judge_m, judge_other, judge_unused, judge_word, judge_words, line_words, tenths_of};
+ghost use Rattle.gcode_text.specs.Grammar.{empty_block, in_range, is_among, is_one_of, judge_g, judge_m, judge_other, judge_unused, judge_word, judge_words, line_words, tenths_of};
 ghost use Rattle.gcode_text.specs.Words.{word_of};
 
 use crate::block::{Block, Tenths};
@@ -10,6 +10,8 @@ use crate::words::{Word, first_word};
 use grid_num::{Decimal, Units};
 
 /// The block of a text without comments and blanks, or the first fault among its words.
+// The functions of a word are written out where they are called, here and for a plain line: apart they would hand the block and the number
+// over in memory.
 // If you change this: each function here equals one definition of `specs/Grammar.antt`, with the order of the faults of a word: its
 // letter, the form of its number, a second use of the letter, a number off the grid, one out of range. Change the definition first. None
 // needs an answer by hand, so what differs from it is reported at the function of the word.
@@ -29,20 +31,41 @@ pub fn judge(units: Units, text: &[u8]) -> Result<Block, CodeKind>
 fn judged_word(units: Units, block: Block, word: Word<'_>) -> Result<Block, CodeKind>
     ensures { result ≡ judge_word units block (word_of word.entry) }
 {
-    if !matches!(
-        word.letter,
-        b'N' | b'G' | b'M' | b'X' | b'Y' | b'Z' | b'F' | b'S' | b'P'
-    ) {
+    if !is_letter(word.letter) {
         return Err(CodeKind::Word);
     }
     let number = Decimal::read(word.number).map_err(|_| CodeKind::Number)?;
-    match word.letter {
-        b'G' => judged_g(units, block, &number),
-        b'M' => judged_m(block, &number),
-        letter => judged_other(units, block, letter, &number),
+    judged_number(units, block, word.letter, &number)
+}
+
+/// Whether the byte is a letter of the profile.
+pub fn is_letter(byte: u8) -> bool
+    ensures { result ≡ is_among (codes "NGMXYZFSP") byte }
+{
+    matches!(
+        byte,
+        b'N' | b'G' | b'M' | b'X' | b'Y' | b'Z' | b'F' | b'S' | b'P'
+    )
+}
+
+/// The block with one more word, of a letter of the profile and a number.
+#[inline(always)]
+pub fn judged_number(
+    units: Units,
+    block: Block,
+    letter: u8,
+    number: &Decimal,
+) -> Result<Block, CodeKind>
+    ensures { result ≡ (if letter == 71 then judge_g units block number.now else if letter == 77 then judge_m block number.now else judge_other units block letter number.now) }
+{
+    match letter {
+        b'G' => judged_g(units, block, number),
+        b'M' => judged_m(block, number),
+        letter => judged_other(units, block, letter, number),
     }
 }
 
+#[inline(always)]
 fn judged_g(units: Units, block: Block, number: &Decimal) -> Result<Block, CodeKind>
     ensures { result ≡ judge_g units block number.now }
 {
@@ -78,6 +101,7 @@ fn judged_g(units: Units, block: Block, number: &Decimal) -> Result<Block, CodeK
     Err(CodeKind::Word)
 }
 
+#[inline(always)]
 fn judged_m(block: Block, number: &Decimal) -> Result<Block, CodeKind>
     ensures { result ≡ judge_m block number.now }
 {
@@ -93,6 +117,7 @@ fn judged_m(block: Block, number: &Decimal) -> Result<Block, CodeKind>
     Err(CodeKind::Word)
 }
 
+#[inline(always)]
 fn judged_other(units: Units, block: Block, letter: u8, number: &Decimal) -> Result<Block, CodeKind>
     ensures { result ≡ judge_other units block letter number.now }
 {
@@ -117,6 +142,7 @@ fn judged_other(units: Units, block: Block, letter: u8, number: &Decimal) -> Res
 }
 
 // A word of N, F, S or P, whose number is without effect.
+#[inline(always)]
 fn judged_unused(block: Block, letter: u8) -> Result<Block, CodeKind>
     ensures { result ≡ judge_unused block letter }
 {
@@ -155,6 +181,7 @@ fn is_any(number: &Decimal, tenths: &[u32]) -> bool
 }
 
 // The number as a coordinate or a height: the type that is asked for has its range.
+#[inline(always)]
 fn read_ranged<const BELOW: u32>(units: Units, number: &Decimal) -> Result<Tenths<BELOW>, CodeKind>
     requires { BELOW ≤ 327680 }
     ensures { result ≡ and_then (tenths_of units number.now) (in_range (neg_ℤ (pos BELOW)) (pos 327670)) }
@@ -164,6 +191,7 @@ fn read_ranged<const BELOW: u32>(units: Units, number: &Decimal) -> Result<Tenth
 }
 
 // The number in tenths of a grid unit.
+#[inline(always)]
 fn read_tenths(units: Units, number: &Decimal) -> Result<i128, CodeKind>
     ensures { result ≡ tenths_of units number.now }
 {

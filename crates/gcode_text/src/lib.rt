@@ -10,6 +10,7 @@ mod fault;
 mod judge;
 mod line;
 mod modal;
+mod plain;
 mod reader;
 mod state;
 mod stepper;

@@ -1,11 +1,12 @@
 // A line of a program: its block, from what stands outside its comments and blanks, in capitals.
 ghost use Rattle.std.specs.Prelude.{◌≡◌, ◌≤◌, false, Some, None, if◌then◌else◌, length};
 ghost use Rattle.gcode_text.specs.Grammar.{capital, outside_comments};
-ghost use Rattle.gcode_text.specs.Moves.{line_block};
+ghost use Rattle.gcode_text.specs.Moves.{line_block, words_block};
 
 use crate::block::Block;
 use crate::fault::CodeKind;
 use crate::judge::judge;
+use crate::plain::plain_block;
 use arrayvec::ArrayVec;
 use grid_num::Units;
 use text_lines::Separator;
@@ -23,6 +24,19 @@ pub fn line_block(units: Units, line: &[u8]) -> Result<Block, CodeKind>
     if line.len() > MOST_LINE_BYTES {
         return Err(CodeKind::LongLine);
     }
+    match plain_block(units, line) {
+        Some(block) => Ok(block),
+        None => words_block(units, line),
+    }
+}
+
+// The block of what stands outside comments, byte by byte.
+// Apart, so that a plain line doesn't pay for the room that this takes.
+#[inline(never)]
+fn words_block(units: Units, line: &[u8]) -> Result<Block, CodeKind>
+    requires { length line.now ≤ MOST_LINE_BYTES }
+    ensures { result ≡ words_block units (outside_comments false line.now) }
+{
     let mut outside = ArrayVec::new();
     if !take_outside(line, &mut outside) {
         return Err(CodeKind::OpenComment);
