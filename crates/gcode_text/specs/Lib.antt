@@ -5,6 +5,7 @@ pub mod Grammar
 pub mod Moves
 pub mod Plain
 pub mod Reading
+pub mod Runs
 pub mod Stepping
 pub mod Within
 pub mod Words

@@ -126,8 +126,15 @@ impl Collected {
         ensures room_left { self.new.stepper.fed ≤ self.old.stepper.fed + length piece.now }
         ensures moves { OnOk result (Continues self.old piece.now self.new []) }
     {
-        for byte in piece {
-            self.take(*byte)?;
+        let mut rest = piece;
+        while let [first, behind @ ..] = rest {
+            let len = self.stepper.take_line(rest);
+            if len == 0 {
+                self.take(*first)?;
+                rest = behind;
+            } else {
+                rest = &rest[len..];
+            }
         }
         Ok(())
     }

@@ -1,8 +1,10 @@
 // The state of a program that is read a byte at a time, and what a byte does with it.
-ghost use Rattle.std.specs.Prelude.{◌≡◌, ◌+◌, ◌<◌, ◌^◌};
+ghost use Rattle.std.specs.Prelude.{◌≡◌, ◌+◌, ◌<◌, ◌≤◌, ◌^◌, [], length, take};
+ghost use Rattle.std.specs.List.{prefix_len};
 ghost use Rattle.grid_num.specs.Judging.{and_then};
 ghost use Rattle.gcode_text.specs.Moves.{in_line, judge_move};
-ghost use Rattle.gcode_text.specs.Stepping.{behind_block, behind_line, block_of, ended_line, last_move, move_of_line, next, start_of, turn_by, turn_of, with_byte};
+ghost use Rattle.gcode_text.specs.Runs.{is_of_line};
+ghost use Rattle.gcode_text.specs.Stepping.{after, behind_block, behind_line, block_of, ended_line, last_move, move_of_line, moves_reported, next, start_of, turn_by, turn_of, with_byte};
 
 use crate::block::Block;
 use crate::fault::{CodeFault, CodeKind};
@@ -118,6 +120,31 @@ impl State {
         }
     }
 
+    /// Takes those of the next bytes that belong to the line and find room in it, all at once, and says how many it took. They report
+    /// nothing. It may take none: `step` takes each.
+    pub fn take_line(&mut self, bytes: &[u8]) -> usize
+        requires fed { self.old.fed + length bytes.now < 2 ^ 32 }
+        ensures within { result ≤ length bytes.now }
+        ensures after { self.new ≡ after self.old (take result bytes.now) }
+        ensures silent { moves_reported self.old (take result bytes.now) ≡ [] }
+        ensures units { self.new.units ≡ self.old.units }
+        ensures line { self.new.line ≡ self.old.line }
+        ensures moves { self.new.moves ≡ self.old.moves }
+        ensures fed { self.new.fed ≡ self.old.fed + result }
+    {
+        if self.phase != Phase::Open {
+            return 0;
+        }
+        let room = LINE_ROOM - self.bytes.len();
+        let front = front(bytes, room);
+        let len = line_len(front);
+        if self.bytes.try_extend_from_slice(&front[..len]).is_err() {
+            return 0;
+        }
+        self.fed += len as u32;
+        len
+    }
+
     // One more byte of the line.
     fn push(&mut self, byte: u8)
         ensures { self.new ≡ with_byte self.old byte }
@@ -197,4 +224,32 @@ impl State {
         }
         line_block(self.units, without_return(self.bytes.as_slice()))
     }
+}
+
+// The first bytes, at most so many.
+fn front(bytes: &[u8], most: usize) -> &[u8]
+    ensures value { result.now ≡ take most bytes.now }
+    ensures room { length result.now ≤ most }
+    ensures within { length result.now ≤ length bytes.now }
+{
+    if bytes.len() < most {
+        bytes
+    } else {
+        &bytes[..most]
+    }
+}
+
+// How many bytes come before the first line feed.
+fn line_len(bytes: &[u8]) -> usize
+    ensures value { result ≡ prefix_len is_of_line bytes.now }
+    ensures within { result ≤ length bytes.now }
+{
+    bytes.iter().take_while(|byte| is_of_line(**byte)).count()
+}
+
+// Whether the byte is no line feed.
+fn is_of_line(byte: u8) -> bool
+    ensures { result ≡ is_of_line byte }
+{
+    byte != b'\n'
 }

@@ -1,7 +1,7 @@
 // Reads a program a byte at a time, and takes no memory.
-ghost use Rattle.std.specs.Prelude.{◌≡◌, ◌+◌, ◌<◌, [], ◌∷◌, ◌++◌, List, ℕ, Ok, Err};
+ghost use Rattle.std.specs.Prelude.{◌≡◌, ◌+◌, ◌<◌, ◌≤◌, [], ◌∷◌, ◌++◌, List, ℕ, Ok, Err, length, take};
 ghost use Rattle.gcode_text.specs.Moves.{moves_of};
-ghost use Rattle.gcode_text.specs.Stepping.{IfFailed, IfMoved, IsAfter, last_move, moves_at_end, moves_reported, next, start_of, turn_of};
+ghost use Rattle.gcode_text.specs.Stepping.{IfFailed, IfMoved, IsAfter, after, last_move, moves_at_end, moves_reported, next, start_of, turn_of};
 
 use crate::fault::CodeFault;
 use crate::state::{MOST_CODE_BYTES, State, Turn};
@@ -54,6 +54,19 @@ impl Stepper {
         ensures fault { IfFailed result (λ fault. (bytes : List ℕ) → IsAfter bytes self.old → moves_of self.old.units (bytes ++ byte ∷ []) ≡ Err fault) }
     {
         self.state.step(byte)
+    }
+
+    /// Takes those of the next bytes that end no line, as far as there is room for them, and says how many it took. They report
+    /// nothing. It may take none: `byte` takes each.
+    pub(crate) fn take_line(&mut self, bytes: &[u8]) -> usize
+        requires { self.old.fed + length bytes.now ≤ MOST_CODE_BYTES }
+        ensures within { result ≤ length bytes.now }
+        ensures after { self.new ≡ after self.old (take result bytes.now) }
+        ensures silent { moves_reported self.old (take result bytes.now) ≡ [] }
+        ensures units { self.new.units ≡ self.old.units }
+        ensures fed { self.new.fed ≡ self.old.fed + result }
+    {
+        self.state.take_line(bytes)
     }
 
     /// Judges the last line, which no line feed has closed: its move, if it has one. The first fault of all lines, where
