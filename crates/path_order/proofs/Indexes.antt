@@ -10,7 +10,7 @@ use Rattle.path_order.specs.Index.{HaveLeaves, HoldsSlot, IsBelow, IsIndex, IsIn
 use Rattle.path_order.specs.declared.entry.Entry.{Entry}
 use Rattle.path_order.specs.declared.extent.Extent.{Extent}
 use Rattle.path_order.specs.declared.span.Span.{Span}
-use Rattle.path_order.specs.declared.tour.TheConstants.{MOST_CHAINS}
+use Rattle.plane_exact.specs.declared.node.TheConstants.{MOST_CHAINS}
 
 halved_le : (k i : ℕ) → halved k i ≤ i
 halved_le zero i = omega arith

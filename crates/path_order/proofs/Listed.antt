@@ -5,12 +5,12 @@ use Rattle.std.specs.List.Sorted.{IsPermutation}
 use Rattle.std.proofs.lemmas.List.{length-map}
 use Rattle.std.proofs.lemmas.List.FromFn.{get_or-map-range_with_len, length-map-range_with_len, map-range_with_len_more}
 use Rattle.std.proofs.lemmas.List.Sorted.{All-permutation, IsPermutation-map, IsPermutation-refl, IsPermutation-trans, length_permutation}
-use Rattle.plane_exact.specs.Nodes.{GridNode}
+use Rattle.plane_exact.specs.Nodes.{GridNode, first_place}
 use Rattle.plane_exact.specs.Plane.{GridPoint}
-use Rattle.path_order.specs.Order.{chain_at, first_place}
+use Rattle.path_order.specs.Order.{chain_at}
 use Rattle.path_order.specs.Entries.{AreAllEntries, IsEntryOf, entry_of, numbers_of}
 use Rattle.path_order.specs.declared.entry.Entry.{Entry}
-use Rattle.path_order.specs.declared.tour.TheConstants.{MOST_CHAINS}
+use Rattle.plane_exact.specs.declared.node.TheConstants.{MOST_CHAINS}
 
 -- all entries are the chains', each once
 pub all_entries : (chains : List (List GridNode)) (entries : List Entry) → entries ≡ map (entry_of chains) (range_with_len 0 (length chains)) → AreAllEntries chains entries

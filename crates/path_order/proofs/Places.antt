@@ -1,7 +1,6 @@
 -- Where chains end.
 use Rattle.std.proofs.Common.{◌≡◌, ℕ, zero, suc, ◌+◌, List, [], ◌∷◌, length, get_or, arith, refl}
-use Rattle.plane_exact.specs.Nodes.{GridNode}
-use Rattle.path_order.specs.Order.{last_place}
+use Rattle.plane_exact.specs.Nodes.{GridNode, last_place}
 
 pub last_is : (nodes : List GridNode) (i : ℕ) (d : GridNode) → i + 1 ≡ length nodes → (get_or nodes i d).at ≡ last_place nodes
 last_is [] i d last = absurd (omega arith)

@@ -4,10 +4,10 @@ use Rattle.std.specs.List.{range_with_len}
 use Rattle.std.specs.List.Sorted.{IsPermutation}
 use Rattle.std.proofs.lemmas.List.Elements.{All-head, All-map, All-tail}
 use Rattle.std.proofs.lemmas.List.Sorted.{All-permutation, IsPermutation-cons, IsPermutation-map, IsPermutation-pop_more, IsPermutation-refl, IsPermutation-trans, length_permutation}
-use Rattle.plane_exact.specs.Nodes.{GridNode}
+use Rattle.plane_exact.specs.Nodes.{GridNode, first_place, last_place, origin}
 use Rattle.plane_exact.specs.Plane.{GridPoint}
 use Rattle.plane_exact.specs.Product.{dot_of}
-use Rattle.path_order.specs.Order.{IsNearestNext, IsOrder, IsSooner, chain_at, first_place, last_place, origin}
+use Rattle.path_order.specs.Order.{IsNearestNext, IsOrder, IsSooner, chain_at}
 use Rattle.path_order.specs.Entries.{AreAllEntries, IsBeforeEntry, IsEntryOf, TakesNearest, numbers_of}
 use Rattle.path_order.specs.declared.entry.Entry.{Entry}
 

@@ -1,10 +1,10 @@
 -- Chains as the search for the nearest one sees them: by their numbers and where they begin.
 use Rattle.std.specs.Prelude.{◌≡◌, ℕ, ◌<◌, List, ◌∷◌, length, map, All, IsPermutation}
 use Rattle.std.specs.List.{range_with_len}
-use Rattle.plane_exact.specs.Nodes.{GridNode}
+use Rattle.plane_exact.specs.Nodes.{GridNode, first_place}
 use Rattle.plane_exact.specs.Plane.{GridPoint}
 use Rattle.plane_exact.specs.Product.{dot_of}
-use Rattle.path_order.specs.Order.{IsBefore, chain_at, first_place}
+use Rattle.path_order.specs.Order.{IsBefore, chain_at}
 use Rattle.path_order.specs.declared.entry.Entry.{Entry}
 
 -- the entry of a chain

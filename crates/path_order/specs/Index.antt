@@ -3,7 +3,7 @@ use Rattle.std.specs.Prelude.{◌≡◌, ℕ, zero, suc, ◌+◌, ◌*◌, ◌/�
 use Rattle.path_order.specs.Extents.{Holds, IsInside}
 use Rattle.path_order.specs.declared.entry.Entry.{Entry}
 use Rattle.path_order.specs.declared.extent.Extent.{Extent}
-use Rattle.path_order.specs.declared.tour.TheConstants.{MOST_CHAINS}
+use Rattle.plane_exact.specs.declared.node.TheConstants.{MOST_CHAINS}
 
 -- a number halved so many times
 abbrev pub halved : ℕ → ℕ → ℕ

@@ -1,24 +1,9 @@
 -- The order in which chains are cut: each once, and always the nearest that is left.
-use Rattle.std.specs.Prelude.{◌≡◌, ℕ, ◌≤◌, ℤ, pos, ◌<ℤ◌, ◌⊎◌, List, [], ◌∷◌, length, All, IsPermutation, slice_index_or}
+use Rattle.std.specs.Prelude.{◌≡◌, ℕ, ◌≤◌, ℤ, ◌<ℤ◌, ◌⊎◌, List, [], ◌∷◌, length, All, IsPermutation, slice_index_or}
 use Rattle.std.specs.List.{range_with_len}
-use Rattle.plane_exact.specs.Nodes.{GridNode}
+use Rattle.plane_exact.specs.Nodes.{GridNode, first_place, last_place, origin}
 use Rattle.plane_exact.specs.Plane.{GridPoint}
 use Rattle.plane_exact.specs.Product.{dot_of}
-
--- where the bit is before the first chain
-abbrev pub origin : GridPoint
-origin = record { x = pos 0; y = pos 0 }
-
--- where a chain begins
-abbrev pub first_place : List GridNode → GridPoint
-first_place [] = origin
-first_place (first ∷ _) = first.at
-
--- where a chain ends
-abbrev pub last_place : List GridNode → GridPoint
-last_place [] = origin
-last_place (node ∷ []) = node.at
-last_place (_ ∷ next ∷ nodes) = last_place (next ∷ nodes)
 
 -- the chain of a number
 abbrev pub chain_at : List (List GridNode) → ℕ → List GridNode

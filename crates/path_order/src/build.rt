@@ -2,7 +2,7 @@
 ghost use Rattle.std.specs.Prelude.{◌≡◌, ◌*◌, ◌≤◌, Some, IfOk, length, map};
 ghost use Rattle.path_order.specs.Index.{HaveLeaves, HoldsSlot, IsIndex};
 ghost use Rattle.path_order.specs.declared.entry.Entry.{Entry};
-ghost use Rattle.path_order.specs.declared.tour.TheConstants.{MOST_CHAINS};
+ghost use Rattle.plane_exact.specs.declared.node.TheConstants.{MOST_CHAINS};
 
 use crate::entry::Entry;
 use crate::extent::Extent;

@@ -1,6 +1,6 @@
 // Where a chain begins and ends.
 ghost use Rattle.std.specs.Prelude.{◌≡◌};
-ghost use Rattle.path_order.specs.Order.{first_place, last_place, origin};
+ghost use Rattle.plane_exact.specs.Nodes.{first_place, last_place, origin};
 
 use plane_exact::{Chain, Point};
 

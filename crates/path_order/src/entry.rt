@@ -2,7 +2,7 @@
 ghost use Rattle.std.specs.Prelude.{◌≡◌, ◌≤◌, IfOk, length, map};
 ghost use Rattle.std.specs.List.{range_with_len};
 ghost use Rattle.path_order.specs.Entries.{entry_of};
-ghost use Rattle.path_order.specs.declared.tour.TheConstants.{MOST_CHAINS};
+ghost use Rattle.plane_exact.specs.declared.node.TheConstants.{MOST_CHAINS};
 
 use crate::ends::first_of;
 use plane_exact::{Chain, Point};

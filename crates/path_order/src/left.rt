@@ -4,7 +4,7 @@ ghost use Rattle.path_order.specs.Entries.{AreAllEntries, TakesNearest};
 ghost use Rattle.path_order.specs.Found.{IsKnown, IsNearestOf};
 ghost use Rattle.path_order.specs.Index.{AreChildren, IsBelow, IsIndex};
 ghost use Rattle.path_order.specs.Left.{IsIndexed, entries_left};
-ghost use Rattle.path_order.specs.declared.tour.TheConstants.{MOST_CHAINS};
+ghost use Rattle.plane_exact.specs.declared.node.TheConstants.{MOST_CHAINS};
 
 use crate::build::{extents_of, slots_of};
 use crate::curve::place_on_curve;

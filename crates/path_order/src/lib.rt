@@ -16,4 +16,4 @@ mod span;
 mod tests;
 mod tour;
 
-pub use tour::{MOST_CHAINS, order};
+pub use tour::order;

@@ -1,6 +1,6 @@
 // Orders of a few chains, worked out by hand.
-use crate::{MOST_CHAINS, order};
-use plane_exact::{Chain, Node, Point};
+use crate::order;
+use plane_exact::{Chain, MOST_CHAINS, Node, Point};
 use std::alloc::Global;
 use std::test::Fail;
 

@@ -1,14 +1,12 @@
 // The order of the chains.
 ghost use Rattle.std.specs.Prelude.{◌≤◌, IfOk, length};
+ghost use Rattle.plane_exact.specs.declared.node.TheConstants.{MOST_CHAINS};
 ghost use Rattle.path_order.specs.Order.{IsOrder};
 
 use crate::ends::{last_of, start};
 use crate::left::Left;
 use plane_exact::Chain;
 use std::alloc::{AllocError, Global};
-
-/// The most chains that are put in order.
-pub const MOST_CHAINS: usize = 131_072;
 
 /// The numbers of the chains, from 0, in the order in which they are cut.
 ///

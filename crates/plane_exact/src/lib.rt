@@ -19,7 +19,7 @@ pub use bit::{Bit, MOST_RADIUS, MOST_SLOPE};
 pub use distance::dist_at_least;
 pub use meet::{Meet, cross_kind};
 pub use moves::{LineMove, MOST_DEPTH, MOST_SPOT_DEPTH, Move, Spot};
-pub use node::{Chain, Node};
+pub use node::{Chain, MOST_CHAINS, MOST_NODES, Node};
 pub use point::{Point, Seg};
 pub use product::{Offset, cross, dot, offset_from};
 pub use segment::passes_through;

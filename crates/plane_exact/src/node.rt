@@ -57,6 +57,12 @@ impl Move {
     }
 }
 
+/// The most chains of a path.
+pub const MOST_CHAINS: usize = 131_072;
+
+/// The most nodes of a path, those of all its chains together.
+pub const MOST_NODES: usize = 4_194_304;
+
 /// Nodes in turn, at least one, between which the bit stays below or at the surface.
 #[derive(Debug, Drop)]
 pub struct Chain {

@@ -1,7 +1,6 @@
 -- Answers the goals of `last_of`.
 use Rattle.std.proofs.Common.{◌∙◌, ◌-◌, ap, arith, length}
-use Rattle.plane_exact.specs.Nodes.{GridNode}
-use Rattle.path_order.specs.Order.{last_place}
+use Rattle.plane_exact.specs.Nodes.{GridNode, last_place}
 use Rattle.path_order.proofs.Places.{last_is}
 use Rattle.path_order.proofs.ends.last_of.Goals as goal
 

@@ -1,7 +1,7 @@
 -- Answers the goals of `entries_of`.
 use Rattle.std.proofs.Common.{◌∙◌, [], ap}
 use Rattle.std.proofs.lemmas.List.{get_or_read}
-use Rattle.path_order.specs.Order.{first_place}
+use Rattle.plane_exact.specs.Nodes.{first_place}
 use Rattle.path_order.proofs.Listed.{one_entry_more}
 use Rattle.path_order.proofs.entry.entries_of.Goals as goal
 

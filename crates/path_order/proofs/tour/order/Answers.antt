@@ -1,7 +1,7 @@
 -- Answers the goals of `order`.
 use Rattle.std.proofs.Common.{◌∙◌, [], ap, subst, sym}
 use Rattle.std.proofs.lemmas.List.{get_or_read}
-use Rattle.path_order.specs.Order.{last_place}
+use Rattle.plane_exact.specs.Nodes.{last_place}
 use Rattle.path_order.specs.Left.{entries_left}
 use Rattle.path_order.proofs.Tours.{IsSoFar, chain_taken, one_fewer, taken_out}
 use Rattle.path_order.proofs.tour.order.Goals as goal
