@@ -1,17 +1,20 @@
 -- The text of a number of grid units, and the number that is read from it.
 use Rattle.std.specs.Prelude.{decimal, unsigned_abs, negsuc}
-use Rattle.std.proofs.Common.{◌≡◌, ℕ, zero, suc, ◌+◌, ◌*◌, ◌/◌, ◌%◌, ◌<◌, ◌≤◌, ◌^◌, Bool, true, false, List, [], ◌∷◌, ◌++◌, length, get_or, drop, set, ℤ, pos, Ok, sym, ap, ◌∙◌, refl, arith, length-append, lit<}
+use Rattle.std.proofs.Common.{◌≡◌, ℕ, zero, suc, ◌+◌, ◌*◌, ◌/◌, ◌%◌, ◌<◌, ◌≤◌, ◌^◌, Bool, true, false, cond, eqb, List, [], ◌∷◌, ◌++◌, length, get_or, drop, set, ℤ, pos, neg_ℤ, ◌*ℤ◌, Result, Ok, Err, sym, ap, ◌∙◌, refl, arith, length-append, lit<}
 use Rattle.std.specs.Char.{is_ascii_digit, digit_value}
 use Rattle.std.specs.Str.{all_ascii_digits}
 use Rattle.std.specs.Str.Parse.{digits_value_after}
 use Rattle.std.proofs.Math.Arith.{mod-mul}
-use Rattle.std.proofs.Math.Nat.{div-div-eq-div-mul, div-le_self, div-one, mod-lt, mod-one, mul-div_cancel, mul-mod_left, pow-suc, pow-succ'}
+use Rattle.std.proofs.Math.Nat.{div-div-eq-div-mul, div-le_self, div-one, mod-lt, mod-one, mul-div_cancel, mul-mod_left, mul_comm, pow-suc, pow-succ'}
 use Rattle.std.proofs.lemmas.Bool.{and_from, and_parts, le-leb, ne_eqb}
 use Rattle.std.proofs.lemmas.Bool.Decides.{nat_tests}
 use Rattle.std.proofs.lemmas.Fmt.{decimal_digit, decimal_nonempty, decimal_step, digits_decimal, digits_value-decimal, length-decimal-le}
+use Rattle.std.proofs.lemmas.Int.{ints}
 use Rattle.std.proofs.lemmas.List.{append-nil, drop-set, drop_more}
 use Rattle.std.proofs.lemmas.Str.Parse.{numerals_by_value, tells_all_ascii_digits}
 use Rattle.grid_num.specs.Decimal.{PlainNumber, decimal_by, decimal_number, decimal_times, times_scale, unsigned_decimal}
+use Rattle.grid_num.specs.declared.decimal.NumFault.{NumFault}
+use Rattle.grid_num.specs.declared.decimal.NumFault.TheVariants.{OffGrid}
 use Rattle.grid_num.specs.Written.{decimal_text, fraction_text, last_digits, size_text, zeros_of}
 use Rattle.grid_num.proofs.Points.{cut_behind, cut_nowhere, decimal_by-short}
 use Rattle.grid_num.proofs.Powers.{power_pos}
@@ -79,7 +82,7 @@ size_read negative places n few fits =
     cut_at_point negative (decimal (n / 10 ^ places)) places n (decimal_all (n / 10 ^ places) quotient) ∙ decimal_by-digits negative places n few fits
 
 -- the number that is written
-abbrev number_of : ℕ → ℤ → PlainNumber
+abbrev pub number_of : ℕ → ℤ → PlainNumber
 number_of places (pos n) = number_with false n places
 number_of places (negsuc n) = number_with true (suc n) places
 
@@ -89,14 +92,29 @@ decimal_number-decimal_text places (pos n) few fits =
     starts_with_digit (decimal (n / 10 ^ places)) (fraction_text places n) (decimal_all (n / 10 ^ places) quotient) (decimal_nonempty (n / 10 ^ places) quotient) ∙ size_read false places n few (omega arith)
 decimal_number-decimal_text places (negsuc n) few fits = size_read true places (suc n) few (omega arith)
 
-pub times_scale-number_of : (places : ℕ) (v : ℤ) → times_scale (10 ^ places) (number_of places v) ≡ Ok v
-times_scale-number_of places (pos n) = rw (mul-mod_left n (10 ^ places), mul-div_cancel n (power_pos places)) refl
-times_scale-number_of places (negsuc n) = rw (mul-mod_left (suc n) (10 ^ places), mul-div_cancel (suc n) (power_pos places)) refl
+-- without digits behind the point
+pub decimal_number-decimal : (n : ℕ) → n ≤ 2 ^ 63 → decimal_number (decimal n) ≡ Ok (number_with false n 0)
+decimal_number-decimal n fits =
+    let text : decimal n ≡ decimal_text 0 (pos n) = ap decimal (sym (div-one n)) ∙ sym (append-nil (decimal (n / 10 ^ 0))) in
+    ap decimal_number text ∙ decimal_number-decimal_text 0 (pos n) (omega arith) fits
+
+scaled_size : (n : ℕ) (signed : ℕ → Result ℤ NumFault) (k places : ℕ) → cond (eqb (n * (k * 10 ^ places) % 10 ^ places) 0) (signed (n * (k * 10 ^ places) / 10 ^ places)) (Err OffGrid) ≡ signed (n * k)
+scaled_size n signed k places =
+    let moved : n * (k * 10 ^ places) ≡ (n * k) * 10 ^ places = omega arith in
+    rw (moved, mul-mod_left (n * k) (10 ^ places), mul-div_cancel (n * k) (power_pos places)) refl
+
+-- at k times the scale that it is written at
+pub times_scale-number_of : (k places : ℕ) (v : ℤ) → times_scale (k * 10 ^ places) (number_of places v) ≡ Ok (pos k *ℤ v)
+times_scale-number_of k places (pos n) = scaled_size n (λ size. Ok (pos size)) k places ∙ ap (λ size. Ok (pos size)) (mul_comm n k)
+times_scale-number_of k places (negsuc n) =
+    scaled_size (suc n) (λ size. Ok (neg_ℤ (pos size))) k places ∙ ap Ok (omega (arith, ints))
 
 -- the text is read back at the scale that it was written at
 pub decimal_times-decimal_text : (places : ℕ) (v : ℤ) → places ≤ 6 → unsigned_abs v ≤ 2 ^ 53 → decimal_times (10 ^ places) (decimal_text places v) ≡ Ok v
 decimal_times-decimal_text places v few small =
-    rw (decimal_number-decimal_text places v few (omega arith), times_scale-number_of places v, le-leb _ _ small) refl
+    let whole : times_scale (10 ^ places) (number_of places v) ≡ Ok v =
+    ap (λ scale. times_scale scale (number_of places v)) (omega arith) ∙ times_scale-number_of 1 places v ∙ ap Ok (omega (arith, ints)) in
+    rw (decimal_number-decimal_text places v few (omega arith), whole, le-leb _ _ small) refl
 
 -- ---- how it is written
 pub zeros_of-le : (per_unit : ℕ) → zeros_of per_unit ≤ 4
