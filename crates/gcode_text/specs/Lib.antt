@@ -3,9 +3,11 @@ pub mod Collecting
 pub mod Faults
 pub mod Grammar
 pub mod Moves
+pub mod Path
 pub mod Plain
 pub mod Reading
 pub mod Runs
 pub mod Stepping
 pub mod Within
 pub mod Words
+pub mod Written

@@ -3,11 +3,16 @@
 //! Its promise is in the clauses `moves` and `fault` of `Reader::finish`: exactly the moves of the bytes fed, however they were
 //! cut, or the fault of the first faulty line. `read_code` says the same of a text that lies there whole, and `Stepper` of one
 //! that comes byte by byte, without memory.
+//!
+//! And the other way: `write_path` writes the program of a job, its clause `text` says which text, and `read_back` that it is read
+//! as exactly the moves through the nodes of its chains.
 #![tactic(auto)]
 
 mod block;
 mod fault;
+mod job;
 mod judge;
+pub mod law;
 mod line;
 mod modal;
 mod plain;
@@ -17,10 +22,15 @@ mod stepper;
 #[cfg(test)]
 mod tests;
 mod words;
+mod writer;
+mod written;
 
 pub use fault::{CodeFault, CodeKind, FinishFault};
+pub use job::{Job, MOST_FEED, MOST_SAFE_HEIGHT};
 pub use line::MOST_LINE_BYTES;
 pub use modal::MOST_MOVES;
 pub use reader::{Reader, read_code};
 pub use state::{MOST_CODE_BYTES, Turn};
 pub use stepper::Stepper;
+pub use writer::write_path;
+pub use written::write_end;

@@ -1,0 +1,40 @@
+-- A text that grows by the lines of one item after the other.
+use Rattle.std.proofs.Common.{◌≡◌, ℕ, ◌+◌, ◌<◌, List, [], ◌∷◌, ◌++◌, length, get_or, take, flat_map, sym, ap, ◌∙◌, append_assoc}
+use Rattle.std.proofs.lemmas.List.{append-nil, take_more}
+use Rattle.std.proofs.lemmas.List.Concat.{flat_map-append}
+use Rattle.plane_exact.specs.Nodes.{GridNode}
+use Rattle.gcode_text.specs.Path.{chain_lines, job_note, path_text, setup_lines}
+use Rattle.gcode_text.specs.Written.{Note, WrittenLine, code_text, line_text}
+use Rattle.gcode_text.specs.declared.job.Job.{Job}
+
+pub code_text-append : (xs ys : List WrittenLine) → code_text (xs ++ ys) ≡ code_text xs ++ code_text ys
+code_text-append = flat_map-append (λ line. line_text line ++ 10 ∷ [])
+
+-- the text of the lines of the items so far, and then of one more
+pub grown : {A : Type 0} (f : A → List WrittenLine) (xs : List A) (i : ℕ) (d : A) (old now next : List ℕ) → i < length xs
+    → now ≡ old ++ code_text (flat_map f (take i xs)) → next ≡ now ++ code_text (f (get_or xs i d)) → next ≡ old ++ code_text (flat_map f (take (i + 1) xs))
+grown f xs i d old now next inside is more =
+    more
+    ∙ ap (λ text. text ++ code_text (f (get_or xs i d))) is
+    ∙ append_assoc old (code_text (flat_map f (take i xs))) (code_text (f (get_or xs i d)))
+    ∙ ap (λ text. old ++ text) (sym (code_text-append (flat_map f (take i xs)) (f (get_or xs i d))))
+    ∙ ap (λ lines. old ++ code_text lines) (lines_more f xs i d inside)
+  where
+    lines_more : {A : Type 0} (f : A → List WrittenLine) (xs : List A) (i : ℕ) (d : A) → i < length xs
+        → flat_map f (take i xs) ++ f (get_or xs i d) ≡ flat_map f (take (i + 1) xs)
+    lines_more f xs i d inside =
+        ap (λ lines. flat_map f (take i xs) ++ lines) (sym (append-nil (f (get_or xs i d))))
+        ∙ sym (flat_map-append f (take i xs) (get_or xs i d ∷ []))
+        ∙ ap (λ items. flat_map f items) (sym (take_more xs i d inside))
+
+-- the text of a note, the setup and the chains is that of the path
+pub path_written : (job : Job) (chains : List (List GridNode)) (note noted set_up whole : List ℕ) → note ≡ job_note job → noted ≡ code_text (Note note ∷ [])
+    → set_up ≡ noted ++ code_text (setup_lines job) → whole ≡ set_up ++ code_text (flat_map (chain_lines job) chains) → whole ≡ path_text job chains
+unfolding path_text
+path_written job chains note noted set_up whole note_is noted_is set_up_is whole_is =
+    let lines = flat_map (chain_lines job) chains in
+    whole_is
+    ∙ ap (λ text. text ++ code_text lines) (set_up_is ∙ ap (λ text. text ++ code_text (setup_lines job)) (noted_is ∙ ap (λ text. code_text (Note text ∷ [])) note_is))
+    ∙ append_assoc (code_text (Note (job_note job) ∷ [])) (code_text (setup_lines job)) (code_text lines)
+    ∙ ap (λ text. code_text (Note (job_note job) ∷ []) ++ text) (sym (code_text-append (setup_lines job) lines))
+    ∙ sym (code_text-append (Note (job_note job) ∷ []) (setup_lines job ++ lines))

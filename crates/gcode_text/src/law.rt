@@ -1,0 +1,13 @@
+// What written programs are worth. A law is the contract of a function that does nothing.
+ghost use Rattle.gcode_text.specs.Path.{ReadBackLaw};
+ghost use Rattle.gcode_text.specs.Written.{WrittenLinesLaw};
+
+/// A text of written lines is read as their words say: its moves are those of the lines, one after the other.
+pub fn written_lines_law()
+    ensures { WrittenLinesLaw }
+{}
+
+/// The program of a path within the limits is read as exactly the moves through the nodes of its chains.
+pub fn read_back_law()
+    ensures { ReadBackLaw }
+{}

@@ -1,0 +1,85 @@
+// The program of a job: its text, and what a reader of it finds.
+ghost use Rattle.std.specs.Prelude.{◌≡◌, ◌++◌, All, flat_map, map, string_bytes, IfOk, OnOk};
+ghost use Rattle.plane_exact.specs.Nodes.{AreWithinLimits, IsChain};
+ghost use Rattle.gcode_text.specs.Path.{IsJob, IsReadBack, chain_lines, job_note, node_line, path_text, setup_lines};
+ghost use Rattle.gcode_text.specs.Written.{code_text};
+
+use crate::job::Job;
+use crate::written::{Motion, write_height, write_node, write_note, write_travel};
+use grid_num::{Units, write_decimal};
+use plane_exact::{Chain, Node};
+use std::alloc::{AllocError, Global};
+
+/// The text of the job's program, but for its end, which `write_end` adds: the bit is taken over the first node of each chain at the
+/// safe height, down to the node, straight through the others, and up again. The error is running out of memory.
+pub fn write_path(alloc: Global, job: &Job, chains: &[Chain]) -> Result<Vec<u8>, AllocError>
+    requires { IsJob job.now }
+    // The text of the lines.
+    ensures text { IfOk result (λ code. code.items ≡ path_text job.now chains.now) }
+    // With its end it is read as exactly the moves through the chains' nodes.
+    ensures read_back { IfOk result (λ _. AreWithinLimits chains.now → IsReadBack job.now chains.now) }
+{
+    let mut code = Vec::new(alloc);
+    write_note(note_of(alloc, job)?.as_str(), &mut code)?;
+    write_setup(job, &mut code)?;
+    write_chains(job, chains, &mut code)?;
+    Ok(code)
+}
+
+fn write_chains(job: &Job, chains: &[Chain], code: &mut Vec<u8>) -> Result<(), AllocError>
+    ensures text { OnOk result (code.new.items ≡ code.old.items ++ code_text (flat_map (chain_lines job.now) chains.now)) }
+    ensures range { OnOk result (All IsChain chains.now) }
+{
+    for chain in chains {
+        write_chain(job, chain, code)?;
+    }
+    Ok(())
+}
+
+fn write_chain(job: &Job, chain: &Chain, code: &mut Vec<u8>) -> Result<(), AllocError>
+    ensures text { OnOk result (code.new.items ≡ code.old.items ++ code_text (chain_lines job.now chain.now)) }
+    ensures range { IsChain chain.now }
+{
+    if let [first, rest @ ..] = chain.nodes() {
+        write_travel(job.units, first.at, code)?;
+        write_height(job.units, Motion::Straight, -i64::from(first.depth), code)?;
+        write_nodes(job.units, rest, code)?;
+        write_height(job.units, Motion::Rapid, i64::from(job.safe), code)?;
+    }
+    Ok(())
+}
+
+fn write_nodes(units: Units, nodes: &[Node], code: &mut Vec<u8>) -> Result<(), AllocError>
+    ensures { OnOk result (code.new.items ≡ code.old.items ++ code_text (map (node_line units) nodes.now)) }
+{
+    for node in nodes {
+        write_node(units, *node, code)?;
+    }
+    Ok(())
+}
+
+/// Units, absolute places, the feed, and up to the safe height.
+#[tactic(auto, unfolding(crate::specs::Path::setup_lines))]
+fn write_setup(job: &Job, code: &mut Vec<u8>) -> Result<(), AllocError>
+    ensures { OnOk result (code.new.items ≡ code.old.items ++ code_text (setup_lines job.now)) }
+{
+    code.extend_from_slice(if job.units.is_inch() {
+        b"G20\nG90\nF"
+    } else {
+        b"G21\nG90\nF"
+    })?;
+    write_decimal(i64::from(job.feed), 1, code)?;
+    code.extend_from_slice(b"\n")?;
+    write_height(job.units, Motion::Rapid, i64::from(job.safe), code)
+}
+
+#[tactic(auto, unfolding(crate::specs::Path::job_note))]
+fn note_of(alloc: Global, job: &Job) -> Result<String, AllocError>
+    ensures { IfOk result (λ note. string_bytes note ≡ job_note job.now) }
+{
+    let (sn, sd, rmax) = (job.bit.sn(), job.bit.sd(), job.bit.rmax());
+    format!(in alloc;
+        "bit {sn}/{sd} rmax {rmax} limit {} step {}",
+        job.limit, job.step
+    )
+}
