@@ -10,7 +10,7 @@ use Rattle.link_split.specs.Midway.{IsDeepest}
 use Rattle.link_split.specs.declared.step.Step.{Step}
 use Rattle.link_split.specs.declared.step.Step.TheVariants.{Lift, To}
 
-end_on : (p : GridNode) (first second : List Step) → end_of p (first ++ second) ≡ end_of (end_of p first) second
+pub end_on : (p : GridNode) (first second : List Step) → end_of p (first ++ second) ≡ end_of (end_of p first) second
 end_on p [] second = refl
 end_on p (step ∷ first) second = end_on (step_node step) first second
 
@@ -33,14 +33,14 @@ module _ (edges : List Seg) (cone : Cone) where
       deepest = All-cons (λ step. IsDeepest edges cone limit (step_node step)) step [] deepest (All-nil (λ step. IsDeepest edges cone limit (step_node step)));
     })
 
-    none_leads : (p q : GridNode) (steps : List Step) → p ≡ q → steps ≡ [] → Leads edges cone limit p q steps
+    pub none_leads : (p q : GridNode) (steps : List Step) → p ≡ q → steps ≡ [] → Leads edges cone limit p q steps
     none_leads p q steps same is = subst (Leads edges cone limit p q) (sym is) (record {
       ends = same;
       clear = tt;
       deepest = All-nil (λ step. IsDeepest edges cone limit (step_node step));
     })
 
-    leads_on : (p mid q : GridNode) (first second steps : List Step) → Leads edges cone limit p mid first → Leads edges cone limit mid q second
+    pub leads_on : (p mid q : GridNode) (first second steps : List Step) → Leads edges cone limit p mid first → Leads edges cone limit mid q second
         → steps ≡ first ++ second → Leads edges cone limit p q steps
     leads_on p mid q first second steps one other is = subst (Leads edges cone limit p q) (sym is) (record {
       ends = end_on p first second ∙ ap (λ n. end_of n second) one.ends ∙ other.ends;
