@@ -8,7 +8,7 @@ use Rattle.clap.proofs.WalkLemmas.{both}
 use Rattle.grid_num.specs.declared.units.Units.{Units}
 use Rattle.job_words.specs.Plain.{GivenOption, given_value, is_in_form}
 use Rattle.job_words.specs.Shape.{shape_by, shape_of}
-use Rattle.job_words.specs.Values.{at_of, bit_of, form_named, limit_of, number_of, or_default, point_of, rmax_of, slope_of, step_of, units_named, units_of}
+use Rattle.job_words.specs.Values.{at_of, bit_of, feed_of, form_named, limit_of, number_of, or_default, point_of, rmax_of, safe_of, slope_of, step_of, units_named, units_of}
 use Rattle.job_words.specs.declared.request.FormWord.{FormWord}
 
 abbrev pub Is : {A : Type 0} → Option A → Type 0
@@ -75,6 +75,12 @@ module _ (given : List GivenOption) (in_form : list_all is_in_form given ≡ tru
 
   pub limit_some : Is (limit_of (value (codes "limit")))
   limit_some = default_some _ (number_of 32767) (value (codes "limit")) (fits given in_form (codes "limit"))
+
+  pub safe_some : Is (safe_of (value (codes "safe")))
+  safe_some = default_some _ (number_of 32767) (value (codes "safe")) (fits given in_form (codes "safe"))
+
+  pub feed_some : Is (feed_of (value (codes "feed")))
+  feed_some = default_some _ (number_of 10000) (value (codes "feed")) (fits given in_form (codes "feed"))
 
   pub shape_some : Is (value (codes "drawing")) → Is (shape_of value)
   unfolding shape_of

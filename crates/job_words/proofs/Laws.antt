@@ -5,6 +5,7 @@ use Rattle.std.proofs.lemmas.List.Elements.{All-from_recursion, All-weaker}
 use Rattle.job_words.specs.Command.{Command}
 use Rattle.job_words.specs.Commands.{commands}
 use Rattle.job_words.specs.Plain.{GivenOption, IsAcceptedInForm, IsGiven, IsRequestOfGiven}
+use Rattle.job_words.proofs.CarveLaw.{carve_law}
 use Rattle.job_words.proofs.CheckLaw.{check_law}
 use Rattle.job_words.proofs.ContactsLaw.{contacts_law}
 use Rattle.job_words.proofs.MovesLaw.{moves_law}
@@ -12,7 +13,7 @@ use Rattle.job_words.proofs.ProbeLaw.{probe_law}
 use Rattle.job_words.proofs.Requests.{IsLawful, accepted_in_form, request_of-given}
 
 lawful : All IsLawful commands
-lawful = All-from_recursion IsLawful commands (probe_law, (moves_law, (check_law, (contacts_law, tt))))
+lawful = All-from_recursion IsLawful commands (probe_law, (moves_law, (check_law, (contacts_law, (carve_law, tt)))))
 
 pub all_requests_of_given : All (λ command. (given : List GivenOption) → IsGiven command.options given → IsRequestOfGiven command given) commands
 all_requests_of_given = All-weaker IsLawful _ request_of-given commands lawful

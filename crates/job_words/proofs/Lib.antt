@@ -1,6 +1,7 @@
 -- The lemmas of the crate.
 pub mod Accepting
 pub mod Apps
+pub mod CarveLaw
 pub mod CheckLaw
 pub mod ContactsLaw
 pub mod Forms

@@ -2,10 +2,12 @@
 use Rattle.std.specs.Prelude.{ℕ, if◌then◌else◌, Option, Some, None, List, [], ◌∷◌}
 use Rattle.std.specs.Str.{bytes_eq}
 use Rattle.job_words.specs.Command.{Command}
+use Rattle.job_words.specs.Commands.Carve.{carve}
 use Rattle.job_words.specs.Commands.Check.{check}
 use Rattle.job_words.specs.Commands.Contacts.{contacts}
 use Rattle.job_words.specs.Commands.Moves.{moves}
 use Rattle.job_words.specs.Commands.Probe.{probe}
+pub mod Carve
 pub mod Check
 pub mod Contacts
 pub mod Moves
@@ -13,7 +15,7 @@ pub mod Probe
 
 -- every command of the program
 abbrev pub commands : List Command
-commands = probe ∷ moves ∷ check ∷ contacts ∷ []
+commands = probe ∷ moves ∷ check ∷ contacts ∷ carve ∷ []
 
 -- the first of the commands that has this name
 abbrev pub named_among : List Command → List ℕ → Option Command

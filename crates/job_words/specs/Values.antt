@@ -73,6 +73,14 @@ step_of = option_and_then (number_of 32767)
 abbrev pub limit_of : Option (List ℕ) → Option ℕ
 limit_of = or_default 32767 (number_of 32767)
 
+-- `--safe`, from 1 to 32,767, and 200 where it isn't given
+abbrev pub safe_of : Option (List ℕ) → Option ℕ
+safe_of = or_default 200 (number_of 32767)
+
+-- `--feed`, from 1 to 10,000, and 500 where it isn't given
+abbrev pub feed_of : Option (List ℕ) → Option ℕ
+feed_of = or_default 500 (number_of 10000)
+
 -- `--form`, loops where it isn't given
 abbrev pub form_of : Option (List ℕ) → Option FormWord
 form_of = or_default Loops form_named

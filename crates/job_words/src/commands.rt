@@ -1,5 +1,6 @@
 // The commands, a file each: its options, and the function that reads its values.
 
+pub mod carve;
 pub mod check;
 pub mod contacts;
 pub mod moves;

@@ -2,7 +2,7 @@
 ghost use Rattle.std.specs.Prelude.{◌≡◌, IfOk, IfSome, Some, None, Err, codes};
 ghost use Rattle.clap.specs.Words.{first_value, found_of};
 ghost use Rattle.plane_exact.specs.Cone.{IsFromOneTo};
-ghost use Rattle.job_words.specs.Values.{at_of, bit_of, rmax_of, step_of, limit_of, form_of, units_of};
+ghost use Rattle.job_words.specs.Values.{at_of, bit_of, rmax_of, step_of, limit_of, safe_of, feed_of, form_of, number_of, or_default, units_of};
 ghost use Rattle.job_words.specs.Shape.{shape_of};
 
 use crate::fault::WordsFault;
@@ -37,6 +37,16 @@ pub const STEP: CommandOption = CommandOption {
 
 pub const LIMIT: CommandOption = CommandOption {
     name: "limit",
+    required: false,
+};
+
+pub const SAFE: CommandOption = CommandOption {
+    name: "safe",
+    required: false,
+};
+
+pub const FEED: CommandOption = CommandOption {
+    name: "feed",
     required: false,
 };
 
@@ -92,9 +102,34 @@ pub fn limit_in(found: &ArgMatches) -> Option<u32>
     ensures value { result ≡ limit_of (first_value (found_of found.now) (codes "limit")) }
     ensures range { IfSome result (IsFromOneTo 32767) }
 {
-    match found.get_str("limit") {
-        Some(text) => read_number(text, 32_767),
-        None => Some(32_767),
+    number_in(found, "limit", 32_767, 32_767)
+}
+
+/// 200 where the option isn't given.
+pub fn safe_in(found: &ArgMatches) -> Option<u32>
+    ensures value { result ≡ safe_of (first_value (found_of found.now) (codes "safe")) }
+    ensures range { IfSome result (IsFromOneTo 32767) }
+{
+    number_in(found, "safe", 200, 32_767)
+}
+
+/// 500 where the option isn't given.
+pub fn feed_in(found: &ArgMatches) -> Option<u32>
+    ensures value { result ≡ feed_of (first_value (found_of found.now) (codes "feed")) }
+    ensures range { IfSome result (IsFromOneTo 10000) }
+{
+    number_in(found, "feed", 500, 10_000)
+}
+
+// A number from 1 to the most, or the default where the option isn't given.
+fn number_in(found: &ArgMatches, name: &str, default: u32, most: u32) -> Option<u32>
+    requires { IsFromOneTo most default }
+    ensures value { result ≡ or_default default (number_of most) (first_value (found_of found.now) name.now) }
+    ensures range { IfSome result (IsFromOneTo most) }
+{
+    match found.get_str(name) {
+        Some(text) => read_number(text, most),
+        None => Some(default),
     }
 }
 

@@ -58,4 +58,20 @@ pub enum Request {
         /// As in `Probe`.
         rmax: u32,
     },
+    /// The G-code program that carves a drawing.
+    Carve {
+        shape: DrawingWords,
+        /// As in `Probe`.
+        bit: (u32, u32),
+        /// As in `Probe`.
+        rmax: u32,
+        /// As in `Contacts`.
+        step: u32,
+        /// As in `Probe`.
+        limit: u32,
+        /// The height above the surface at which the bit travels, in grid units, from 1 to 32,767.
+        safe: u32,
+        /// The feed, in millimetres or inches a minute, from 1 to 10,000.
+        feed: u32,
+    },
 }

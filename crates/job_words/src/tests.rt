@@ -1,5 +1,6 @@
 // Words and what they ask for, by the written forms; a file a command.
 
+mod carve;
 mod check;
 mod contacts;
 mod moves;
@@ -70,12 +71,26 @@ fn text_of_request(alloc: Global, request: &Request) -> Result<String, AllocErro
             let shape = shape_text(alloc, shape)?;
             format!(in alloc; "{shape} {step} {rmax}")
         }
+        Request::Carve {
+            shape,
+            bit,
+            rmax,
+            step,
+            limit,
+            safe,
+            feed,
+        } => {
+            let shape = shape_text(alloc, shape)?;
+            let (sn, sd) = *bit;
+            format!(in alloc; "{shape} {sn}/{sd} {rmax} {step} {limit} {safe} {feed}")
+        }
     }
 }
 
 #[test]
 fn lines_ask_for_their_values(rt: HostRuntime) -> Result<(), Fail> {
     for lines in [
+        carve::LINES.as_slice(),
         check::LINES.as_slice(),
         contacts::LINES.as_slice(),
         moves::LINES.as_slice(),
@@ -98,7 +113,7 @@ fn words_of_no_command_are_refused(rt: HostRuntime) -> Result<(), Fail> {
             Err(WordsFault::Usage)
         )
     );
-    for line in ["", "Moves --code=c", "--code=c", "move --code=c", "carve"] {
+    for line in ["", "Moves --code=c", "--code=c", "move --code=c", "cover"] {
         let read = read_line(rt.alloc(), line)?;
         assert!(rt; matches!(read, Err(WordsFault::Usage)), "{line}");
     }

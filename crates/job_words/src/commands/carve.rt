@@ -1,0 +1,60 @@
+// `carve`: the G-code program that carves a drawing.
+ghost use Rattle.std.specs.Prelude.{◌≡◌, IfOk, Some, None, Err, map, string_bytes};
+ghost use Rattle.clap.specs.Words.{first_value, found_of};
+ghost use Rattle.job_words.specs.Commands.Carve.{carve, carve_options, carve_request};
+ghost use Rattle.job_words.specs.Options.{row_of};
+ghost use Rattle.job_words.specs.Request.{IsInRange, command_request};
+
+use crate::fault::WordsFault;
+use crate::found::{
+    BIT, DRAWING, FEED, FORM, LIMIT, RMAX, SAFE, STEP, UNITS, bit_in, feed_in, limit_in, rmax_in,
+    safe_in, shape_in, step_in,
+};
+use crate::options::{CommandOption, match_words};
+use crate::request::Request;
+use clap::ArgMatches;
+use std::alloc::Global;
+
+static OPTIONS: [CommandOption; 9] = [BIT, RMAX, STEP, LIMIT, SAFE, FEED, DRAWING, FORM, UNITS];
+
+#[tactic(auto, unfolding(crate::specs::Commands::Carve::carve_options))]
+fn options() -> &'static [CommandOption]
+    ensures { map row_of result.now ≡ carve_options }
+{
+    &OPTIONS
+}
+
+/// What the words, of which the first is the command's name, ask for.
+#[tactic(auto, unfolding(crate::specs::Request::command_request))]
+pub fn read(alloc: Global, words: &[String]) -> Result<Request, WordsFault>
+    ensures accepted { IfOk result (λ r. command_request carve (map string_bytes words.now) ≡ Some r) }
+    ensures range { IfOk result IsInRange }
+    ensures usage { result ≡ Err WordsFault.Usage → command_request carve (map string_bytes words.now) ≡ None }
+{
+    let found = match_words(alloc, options(), words)?;
+    read_values(alloc, &found)
+}
+
+#[tactic(auto, unfolding(crate::specs::Commands::Carve::carve_request))]
+fn read_values(alloc: Global, found: &ArgMatches) -> Result<Request, WordsFault>
+    ensures accepted { IfOk result (λ r. carve_request (first_value (found_of found.now)) ≡ Some r) }
+    ensures range { IfOk result IsInRange }
+    ensures usage { result ≡ Err WordsFault.Usage → carve_request (first_value (found_of found.now)) ≡ None }
+{
+    let bit = bit_in(found).ok_or(WordsFault::Usage)?;
+    let rmax = rmax_in(found).ok_or(WordsFault::Usage)?;
+    let step = step_in(found).ok_or(WordsFault::Usage)?;
+    let limit = limit_in(found).ok_or(WordsFault::Usage)?;
+    let safe = safe_in(found).ok_or(WordsFault::Usage)?;
+    let feed = feed_in(found).ok_or(WordsFault::Usage)?;
+    let shape = shape_in(alloc, found)?;
+    Ok(Request::Carve {
+        shape,
+        bit,
+        rmax,
+        step,
+        limit,
+        safe,
+        feed,
+    })
+}
