@@ -2,6 +2,7 @@
 // plain program's depths, and devices that fail; and how segments meet, of plane_exact.
 ghost use Rattle.std.specs.Prelude.{◌≤◌};
 
+mod carve;
 mod check;
 mod contacts;
 mod devices;

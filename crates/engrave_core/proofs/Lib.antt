@@ -1,4 +1,5 @@
 -- The lemmas of the crate.
+pub mod CarvedCode
 pub mod CheckedCode
 pub mod ContactLines
 pub mod Done

@@ -2,7 +2,7 @@
 use Rattle.std.specs.Prelude.{ℕ, Option, Some, None, List, is_some, IsTrue}
 use Rattle.job_words.specs.Request.{request_of}
 use Rattle.job_words.specs.declared.request.Request.{Request}
-use Rattle.engrave_core.specs.Commands.{IsDueOfRequest, IsRefusalOfRequest, IsSafeRequest, IsTrueOfRequest}
+use Rattle.engrave_core.specs.Commands.{IsDueOfRequest, IsGoodText, IsRefusalOfRequest, IsSafeRequest, IsTrueOfRequest}
 use Rattle.engrave_core.specs.Given.{Refuses}
 use Rattle.engrave_core.specs.Stored.{Files}
 use Rattle.engrave_core.specs.declared.outcome.Outcome.{Outcome}
@@ -44,3 +44,8 @@ IsSafeRun files (Some request) = IsSafeRequest files request
 abbrev pub IsTrueRun : Files → Option Request → Outcome → Type 0
 IsTrueRun files None outcome = Unit {0}
 IsTrueRun files (Some request) outcome = IsTrueOfRequest files request outcome
+
+-- what is known of the text that is written with Done
+abbrev pub IsGoodTextOf : Files → Option Request → List ℕ → Type 0
+IsGoodTextOf files None text = Unit {0}
+IsGoodTextOf files (Some request) text = IsGoodText files request text

@@ -11,10 +11,12 @@ use Rattle.shop_port.specs.declared.loading.LoadFault.{LoadFault}
 use Rattle.shop_port.specs.declared.loading.LoadFault.TheVariants as load
 use Rattle.engrave_core.specs.declared.refusal.Refusal.{Refusal}
 use Rattle.engrave_core.specs.declared.refusal.Refusal.TheVariants as refusal
+use Rattle.carve_plan.specs.declared.fault.PlanFault.{PlanFault}
+use Rattle.carve_plan.specs.declared.fault.PlanFault.TheVariants as plan
 use Rattle.tangent_disc.specs.declared.contact.ContactFault.{ContactFault}
 use Rattle.tangent_disc.specs.declared.contact.ContactFault.TheVariants as contact
 use Rattle.engrave_core.specs.declared.outcome.InputFault.TheVariants.{TooLong, Loops, Code as CodeOf, StepTooFine, TooMany}
-use Rattle.engrave_core.specs.declared.outcome.Kind.TheVariants.{Contacts}
+use Rattle.engrave_core.specs.declared.outcome.Kind.TheVariants.{Contacts, Nodes, Chains}
 use Rattle.engrave_core.specs.declared.outcome.Outcome.{Outcome}
 use Rattle.engrave_core.specs.declared.outcome.Outcome.TheVariants.{Input, Absent, ReadFault, Memory}
 use Rattle.engrave_core.specs.declared.outcome.Which.{Which}
@@ -53,6 +55,13 @@ contact_refusal (contact.StepTooFine edge) = refusal.Input (StepTooFine edge)
 contact_refusal contact.TooMany = refusal.Input (TooMany Contacts)
 contact_refusal contact.Memory = refusal.Memory
 
+-- the refusal of a drawing that has no plan
+abbrev pub plan_refusal : PlanFault → Refusal
+plan_refusal (plan.Contact fault) = contact_refusal fault
+plan_refusal plan.TooManyNodes = refusal.Input (TooMany Nodes)
+plan_refusal plan.TooManyChains = refusal.Input (TooMany Chains)
+plan_refusal plan.Memory = refusal.Memory
+
 -- ---- which refusals there are
 
 -- the refusals of a file
@@ -89,3 +98,10 @@ IsRefusalOfContacts (Input (StepTooFine edge)) = Unit {0}
 IsRefusalOfContacts (Input (TooMany Contacts)) = Unit {0}
 IsRefusalOfContacts Memory = Unit {0}
 IsRefusalOfContacts outcome = ⊥
+
+-- the refusals of a plan
+abbrev pub IsRefusalOfPlan : Outcome → Type 0
+IsRefusalOfPlan (Input (StepTooFine edge)) = Unit {0}
+IsRefusalOfPlan (Input (TooMany kind)) = Unit {0}
+IsRefusalOfPlan Memory = Unit {0}
+IsRefusalOfPlan outcome = ⊥

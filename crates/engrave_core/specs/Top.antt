@@ -2,7 +2,8 @@
 use Rattle.std.specs.Prelude.{ℕ, Option, List, codes}
 use Rattle.shop_port.specs.Counts.{Rose}
 use Rattle.shop_port.specs.Output.{Appended, AppendedPart}
-use Rattle.engrave_core.specs.Due.{IsDue}
+use Rattle.job_words.specs.declared.request.Request.{Request}
+use Rattle.engrave_core.specs.Due.{IsDue, IsGoodTextOf}
 use Rattle.engrave_core.specs.Stored.{Files}
 use Rattle.engrave_core.specs.declared.outcome.Outcome.{Outcome}
 
@@ -23,3 +24,10 @@ pub record WritesPart (words : List (List ℕ)) (files : Files) (old new : Optio
 pub record WritesPartOfReadFault (old new : Option (List ℕ)) (faults_before faults_now : ℕ) : Type 0 where
   pub part : AppendedPart old new (codes "read fault\n")
   pub cause : Rose faults_before faults_now
+
+-- a text was written that is good for the request: a G-code program is called clear, removes no point outside the drawing, and reaches
+-- each contact
+pub record WritesGood (files : Files) (request : Option Request) (old new : Option (List ℕ)) : Type 0 where
+  pub text : List ℕ
+  pub good : IsGoodTextOf files request text
+  pub appended : Appended old new text

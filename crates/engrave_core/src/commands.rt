@@ -8,12 +8,14 @@ ghost use Rattle.engrave_core.specs.Given.{IsReported, cone_of};
 ghost use Rattle.engrave_core.specs.Stored.{AnswersFrom};
 ghost use Rattle.engrave_core.specs.Outcome.{outcome_of};
 
+mod carve;
 mod check;
 mod contacts;
 mod moves;
 mod probe;
 
 use crate::refusal::Refusal;
+use gcode_text::Job;
 use job_words::{Request, read_words};
 use plane_exact::Bit;
 use shop_port::Depot;
@@ -54,6 +56,25 @@ fn run<D: Depot>(alloc: Global, request: &Request, depot: &mut D) -> Result<Vec<
             rmax,
         } => check::run(alloc, shape, code, &bit_of(*bit, *rmax), depot),
         Request::Contacts { shape, step, rmax } => contacts::run(alloc, shape, *step, *rmax, depot),
+        Request::Carve {
+            shape,
+            bit,
+            rmax,
+            step,
+            limit,
+            safe,
+            feed,
+        } => {
+            let job = Job {
+                units: shape.units,
+                safe: *safe,
+                feed: *feed,
+                bit: bit_of(*bit, *rmax),
+                limit: *limit,
+                step: *step,
+            };
+            carve::run(alloc, shape, &job, depot)
+        }
     }
 }
 

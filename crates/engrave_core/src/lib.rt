@@ -1,6 +1,6 @@
 //! The top call: from the words of a command and the bytes of its files to the outcome and the written text.
 //!
-//! The whole promise is in the clauses of `engrave`, first `safe`, `exact` and `due`.
+//! The whole promise is in the clauses of `engrave`, first `safe`, `carved`, `exact` and `due`.
 #![tactic(auto)]
 
 mod commands;
@@ -10,5 +10,6 @@ mod outcome;
 mod refusal;
 mod top;
 
+pub use carve_plan::{PlanFault, plan};
 pub use outcome::{InputFault, Kind, Outcome, Which, status};
 pub use top::engrave;

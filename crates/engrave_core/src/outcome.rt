@@ -56,6 +56,10 @@ pub enum InputFault {
 pub enum Kind {
     /// Contacts along the outline: more than 1,048,576.
     Contacts,
+    /// Nodes of the carved path, of all its chains together: more than 4,194,304.
+    Nodes,
+    /// Chains of the carved path: more than 131,072.
+    Chains,
 }
 
 impl Kind {
@@ -67,6 +71,8 @@ impl Kind {
     {
         match self {
             Kind::Contacts => "contacts",
+            Kind::Nodes => "nodes",
+            Kind::Chains => "chains",
         }
     }
 }

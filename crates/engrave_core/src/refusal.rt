@@ -2,6 +2,7 @@
 ghost use Rattle.std.specs.Prelude.{◌≡◌};
 
 use crate::outcome::{InputFault, Kind, Outcome, Which};
+use carve_plan::PlanFault;
 use gcode_text::FinishFault;
 use gouge_checker::Verdict;
 use job_words::WordsFault;
@@ -102,6 +103,21 @@ impl From<ContactFault> for Refusal {
             ContactFault::StepTooFine(edge) => Refusal::Input(InputFault::StepTooFine(edge)),
             ContactFault::TooMany => Refusal::Input(InputFault::TooMany(Kind::Contacts)),
             ContactFault::Memory => Refusal::Memory,
+        }
+    }
+}
+
+impl From<PlanFault> for Refusal {
+    ghost use Rattle.engrave_core.specs.Refusals.{plan_refusal};
+
+    ghost from_gives = { λ fault refusal. refusal ≡ plan_refusal fault };
+
+    fn from(fault: PlanFault) -> Refusal {
+        match fault {
+            PlanFault::Contact(fault) => Refusal::from(fault),
+            PlanFault::TooManyNodes => Refusal::Input(InputFault::TooMany(Kind::Nodes)),
+            PlanFault::TooManyChains => Refusal::Input(InputFault::TooMany(Kind::Chains)),
+            PlanFault::Memory => Refusal::Memory,
         }
     }
 }

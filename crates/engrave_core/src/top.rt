@@ -7,7 +7,7 @@ ghost use Rattle.engrave_core.specs.Due.{IsAccepted, IsAnswer, IsDue, IsSafeRun,
 ghost use Rattle.engrave_core.specs.Stored.{IsCaused};
 ghost use Rattle.engrave_core.specs.Line.{line_of};
 ghost use Rattle.engrave_core.specs.Outcome.{IfAnswered, IfRefused, HasText};
-ghost use Rattle.engrave_core.specs.Top.{WritesDue, WritesPart, WritesPartOfReadFault};
+ghost use Rattle.engrave_core.specs.Top.{WritesDue, WritesGood, WritesPart, WritesPartOfReadFault};
 
 use crate::commands::answer;
 use crate::line::line_of_refusal;
@@ -37,6 +37,11 @@ pub fn engrave<D: Depot, S: Sink>(
 ) -> Outcome
     // A G-code program that is called clear removes no point outside the drawing, at any moment of any move.
     ensures safe { IfSome (D.held depot.old) (λ files. result ≡ Outcome.Done → IsSafeRun files (request_of (map string_bytes words.now))) }
+
+    // A G-code program that is written is called clear for its drawing and bit, removes no point outside the drawing, at any moment of
+    // any move, and goes, for each contact, as deep as fits at the centre of its greatest disc.
+    ensures carved { IfSome (D.held depot.old) (λ files. result ≡ Outcome.Done →
+        WritesGood files (request_of (map string_bytes words.now)) (S.written out.old) (S.written out.new)) }
 
     // The verdict is exact: a program that is called clear is fit, and one that isn't isn't; where it is called a gouge or
     // outside, a moment of a move of the named line removes a point that isn't inside, for a gouge a point of the named edge.

@@ -1,0 +1,148 @@
+// `carve`: small programs by their whole text, what `check` says of them, and refusals. The expected nodes follow from the definitions by
+// hand, or were computed in fractions by another program.
+
+use super::{ANGLE, NEVER, SQUARE, expect, run};
+use std::alloc::Global;
+use std::process::Abort;
+use std::test::Fail;
+
+const SMALL: &str = "0,0 4,0 4,4 0,4";
+
+const CARVED: &str =
+    "(bit 1/1 rmax 2 limit 32767 step 2)\nG21\nG90\nF500\nG0 Z2.00\nG0 X0.00 Y0.00\nG1 Z0.00\n\
+    G1 X0.02 Y0.02 Z-0.02\nG1 X0.04 Y0.00 Z0.00\nG1 X0.02 Y0.02 Z-0.02\nG1 X0.04 Y0.04 Z0.00\n\
+    G1 X0.02 Y0.02 Z-0.02\nG1 X0.00 Y0.04 Z0.00\nG1 X0.02 Y0.02 Z-0.02\nG1 X0.00 Y0.00 Z0.00\nG0 Z2.00\nM2\n";
+
+#[test]
+fn a_small_square_is_carved_line_by_line(rt: HostRuntime) -> Result<(), Fail> {
+    for (words, text) in [
+        ("carve --drawing=d --bit=1/1 --rmax=2 --step=2", CARVED),
+        // A bit that is too narrow for the middle goes round it.
+        (
+            "carve --drawing=d --bit=1/1 --rmax=1 --step=2 --units=in1000 --safe=5 --feed=10000 --limit=9",
+            "(bit 1/1 rmax 1 limit 9 step 2)\nG20\nG90\nF10000\nG0 Z0.005\nG0 X0.000 Y0.000\nG1 Z0.000\n\
+             G1 X0.002 Y0.001 Z-0.001\nG1 X0.004 Y0.000 Z0.000\nG1 X0.003 Y0.002 Z-0.001\n\
+             G1 X0.004 Y0.004 Z0.000\nG1 X0.002 Y0.003 Z-0.001\nG1 X0.000 Y0.004 Z0.000\n\
+             G1 X0.001 Y0.002 Z-0.001\nG1 X0.000 Y0.000 Z0.000\nG0 Z0.005\nM2\n",
+        ),
+        // At the corners alone nothing is cut: five chains at the surface.
+        (
+            "carve --drawing=d --bit=1/1 --rmax=2 --step=4",
+            "(bit 1/1 rmax 2 limit 32767 step 4)\nG21\nG90\nF500\nG0 Z2.00\n\
+             G0 X0.00 Y0.00\nG1 Z0.00\nG0 Z2.00\nG0 X0.00 Y0.00\nG1 Z0.00\nG0 Z2.00\n\
+             G0 X0.04 Y0.00\nG1 Z0.00\nG0 Z2.00\nG0 X0.04 Y0.04\nG1 Z0.00\nG0 Z2.00\n\
+             G0 X0.00 Y0.04\nG1 Z0.00\nG0 Z2.00\nM2\n",
+        ),
+    ] {
+        expect(&rt, rt.alloc(), words, (SMALL, ""), (0, text))?;
+    }
+    let words = "carve --drawing=d --bit=1/1 --rmax=2 --step=2";
+    let nothing = "(bit 1/1 rmax 2 limit 32767 step 2)\nG21\nG90\nF500\nG0 Z2.00\nM2\n";
+    expect(&rt, rt.alloc(), words, ("", ""), (0, nothing))
+}
+
+// Carves the drawing, and expects that `check` calls so many moves of the program clear.
+fn expect_clear(
+    rt: &impl Abort,
+    alloc: Global,
+    drawing: &str,
+    bit: &str,
+    step: u32,
+    line: &str,
+) -> Result<(), Fail> {
+    let words = format!(in alloc; "carve --drawing=d {bit} --step={step}")?;
+    let (status, code) = run(alloc, words.as_str(), (drawing, ""), 65_536, (NEVER, NEVER))?;
+    assert_eq!(rt; status, 0, "{words}");
+    let words = format!(in alloc; "check --drawing=d --code=c {bit}")?;
+    expect(
+        rt,
+        alloc,
+        words.as_str(),
+        (drawing, code.as_str()),
+        (0, line),
+    )
+}
+
+#[test]
+fn carved_programs_are_called_clear(rt: HostRuntime) -> Result<(), Fail> {
+    for (drawing, bit, step, line) in [
+        (SMALL, "--bit=1/1 --rmax=2", 2, "clear 10 moves\n"),
+        (SMALL, "--bit=1/1 --rmax=2", 4, "clear 14 moves\n"),
+        ("", "--bit=1/1 --rmax=2", 2, "clear 0 moves\n"),
+    ] {
+        expect_clear(&rt, rt.alloc(), drawing, bit, step, line)?;
+    }
+    Ok(())
+}
+
+#[test]
+fn carving_is_refused_in_its_order(rt: HostRuntime) -> Result<(), Fail> {
+    for (words, drawing, line, want) in [
+        (
+            "carve --drawing=d --bit=1/1 --rmax=1 --step=5",
+            "0,0 9,9 9,0\n0,0 32767,32767 32767,32766 0,9",
+            "input step too fine 3\n",
+            3,
+        ),
+        (
+            "carve --drawing=e --bit=1/1 --rmax=1 --step=5",
+            SQUARE,
+            "absent drawing\n",
+            4,
+        ),
+        (
+            "carve --drawing=d --bit=1/1 --rmax=1 --step=5",
+            "5,5",
+            "input loops 0 short\n",
+            3,
+        ),
+        (
+            "carve --drawing=d --bit=1/1 --rmax=1 --step=5 --pitch=10",
+            ANGLE,
+            "usage\n",
+            2,
+        ),
+    ] {
+        expect(&rt, rt.alloc(), words, (drawing, ""), (want, line))?;
+    }
+    Ok(())
+}
+
+/// Three times the greatest square, whose sides have 8192 pieces. Where no depth fits, each of its nodes is a chain, the first twice.
+const THREE_GREATEST: &str = "-32768,-32768 32767,-32768 32767,32767 -32768,32767\n\
+    -32768,-32768 32767,-32768 32767,32767 -32768,32767\n\
+    -32768,-32768 32767,-32768 32767,32767 -32768,32767\n";
+
+#[test]
+fn there_may_be_so_many_chains_and_no_more(rt: HostRuntime) -> Result<(), Fail> {
+    let words = "carve --drawing=d --bit=2/1 --rmax=1 --step=8";
+    // And 8191 pieces a side: 3 * 32,769 + 32,765 are 131,072 chains.
+    let most = "-32768,-32768 32760,-32768 32760,32760 -32768,32760\n";
+    let drawing = format!(in rt.alloc(); "{THREE_GREATEST}{most}")?;
+    let (status, text) = run(
+        rt.alloc(),
+        words,
+        (drawing.as_str(), ""),
+        65_536,
+        (NEVER, NEVER),
+    )?;
+    assert_eq!(rt;
+        (status, text.as_str().lines().count()),
+        (0, 5 + 3 * 131_072 + 1)
+    );
+    // And 8190 pieces a side, and one: 3 * 32,769 + 32,761 + 5 are one chain more.
+    let more = "-32768,-32768 32752,-32768 32752,32752 -32768,32752\n0,0 8,0 8,8 0,8\n";
+    let drawing = format!(in rt.alloc(); "{THREE_GREATEST}{more}")?;
+    let line = "input too many chains\n";
+    expect(&rt, rt.alloc(), words, (drawing.as_str(), ""), (3, line))
+}
+
+#[test]
+fn a_failing_device_is_reported_in_place_of_a_program(rt: HostRuntime) -> Result<(), Fail> {
+    let words = "carve --drawing=d --bit=1/1 --rmax=2 --step=2";
+    let (status, text) = run(rt.alloc(), words, (SMALL, ""), 10, (NEVER, 2))?;
+    assert_eq!(rt; (status, text.as_str()), (6, "(bit 1/1 r"));
+    let (status, text) = run(rt.alloc(), words, (SMALL, ""), 65_536, (1, NEVER))?;
+    assert_eq!(rt; (status, text.as_str()), (5, "read fault\n"));
+    Ok(())
+}
