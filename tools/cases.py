@@ -2,7 +2,7 @@
 
 import math
 
-from definitions import MOST_DEPTH, Bit, Move, Spot, edges_of, nearest_point, passes_edge, squared_distance
+from definitions import MOST_DEPTH, Bit, Job, Move, Spot, edges_of, nearest_point, passes_edge, pieces, squared_distance
 
 LEAST, MOST = -32768, 32767
 
@@ -201,6 +201,41 @@ def small_radius(rng, reach):
     """A greatest radius of a disc that is of the drawing's size or less."""
     most = min(reach, 60)
     return rng.choice([1, 2, rng.randint(1, 2 * most), rng.randint(1, 2 * most)])
+
+
+def elbow(rng):
+    """Two wide arms, and a slim bit that fits into them: round the inner corner the way is halved as often as it may be."""
+    wide = rng.randint(130, 170)
+    points = [(0, 0), (4, 0), (4, 2), (2, 2), (2, 4), (0, 4)]
+    turn = rng.choice([lambda x, y: (x, y), lambda x, y: (y, x), lambda x, y: (-x, y), lambda x, y: (-y, -x)])
+    jitter = rng.choice([0, 0, 9])
+    loop = [turn(wide * x + rng.randint(0, jitter), wide * y + rng.randint(0, jitter)) for x, y in points]
+    return [loop], Bit(1, rng.choice([100, 150, 200]), wide)
+
+
+# how many contacts a drawing has at most that is carved, unless its corners are more
+MOST_CARVED = 36
+
+
+def carving_step(rng, edges):
+    """A step that gives few contacts; across the whole grid, where discs take long to find, one that is too fine."""
+    longest = max((max(abs(bx - ax), abs(by - ay)) for (ax, ay), (bx, by) in edges), default=0)
+    if longest > 20_000:
+        return rng.choice([1, 2])
+    steps = [1, 2, 3, 4, rng.randint(1, 40), longest // 3, longest // 2]
+    few = [step for step in steps if step > 0 and sum(1 + pieces(edge, step) for edge in edges) <= MOST_CARVED]
+    return min(rng.choice(few or [2 * longest + 1]), MOST)
+
+
+def carved(rng, loops, reach):
+    """A drawing to be carved, this one or an elbow, and the job."""
+    cone = bit(rng, reach)._replace(rmax=small_radius(rng, min(reach, 20)))
+    limit = rng.choice([1, rng.randint(1, 2 * min(reach, 60)), *[rng.choice([400, 400, 400, MOST_DEPTH])] * 6])
+    if rng.random() < 0.03:
+        (loops, cone), limit = elbow(rng), MOST_DEPTH
+    safe = rng.choice([200, 200, 1, MOST, rng.randint(1, MOST)])
+    feed = rng.choice([500, 500, 1, 10_000, rng.randint(1, 10_000)])
+    return loops, Job(rng.choice(list(UNITS)), cone, limit, carving_step(rng, edges_of(loops)), safe, feed)
 
 
 def box(edges, margin):

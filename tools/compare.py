@@ -33,11 +33,12 @@ HOW_TO_BUILD = "(cd crates/engrave_cli && rt run -- probe --drawing=data/plate.l
 SLIM = Bit(1, 2000, 1)
 LONGEST_FOR_SLIM = 2000
 
-# how many depths, codes that are checked, codes whose moves are listed, steps, and discs of a step, for each drawing
-DEPTHS, CODES, LISTED, STEPS, DISCS = 12, 14, 2, 2, 6
+# how many depths, codes that are checked, codes whose moves are listed, steps, discs of a step, and carved programs, for each drawing
+DEPTHS, CODES, LISTED, STEPS, DISCS, CARVED = 12, 14, 2, 2, 6, 1
 
 SPARED, WITHIN = "clear: edges of which no sampled point is removed", "clear: removed points that are inside"
-COMPARED = ["inside", "depth", "contacts", "discs", "moves", "check", SPARED, WITHIN]
+CARVED_MOVES, CARVED_CLEAR = "carve: the moves of the program", "carve: the program is called clear"
+COMPARED = ["inside", "depth", "contacts", "discs", "moves", "check", SPARED, WITHIN, "carve", CARVED_MOVES, CARVED_CLEAR]
 
 
 class Comparison:
@@ -154,10 +155,47 @@ class Comparison:
             units = self.rng.choice(list(cases.UNITS))
             code = cases.listed_code(self.rng, units)
             path = self.write(f"listed{number}.ngc", code.text())
-            lines = [f"{mv.line} {spot_text(mv.start)} {spot_text(mv.end)}\n" for mv in code.moves]
             words = ["moves", f"--code={path}", f"--units={units}"]
-            self.agree("moves", (0, "".join(lines) + f"moves {len(code.moves)}\n"), self.run(*words), *words)
+            self.agree("moves", (0, moves_text(code.moves)), self.run(*words), *words)
             self.spread["moves: listed"] += len(code.moves)
+
+    def compare_carved(self):
+        for number in range(CARVED):
+            loops, job = cases.carved(self.rng, self.loops, self.reach)
+            drawing = self.write(f"carved{number}.loops", cases.loops_text(self.rng, loops))
+            common = [f"--drawing={drawing}", f"--bit={job.bit.sn}/{job.bit.sd}", f"--rmax={job.bit.rmax}"]
+            words = ["carve", *common, f"--step={job.step}", *self.carving_options(job)]
+            fine = definitions.first_too_fine(definitions.edges_of(loops), job.step)
+            if fine is not None:
+                self.agree("carve", (3, f"input step too fine {fine}\n"), self.run(*words), *words)
+                self.spread["carve: step too fine"] += 1
+                continue
+            chains = definitions.plan(loops, job.bit, job.limit, job.step)
+            got = self.run(*words)
+            self.agree("carve", (0, definitions.code_text(job, chains)), got, *words)
+            self.spread_of(chains)
+            if got[0] == 0:
+                self.read_carved(job, chains, common, self.write(f"carved{number}.ngc", got[1]))
+
+    def carving_options(self, job):
+        """The other options, some of them left out where they are what holds then."""
+        options = {"limit": (job.limit, MOST_DEPTH), "safe": (job.safe, 200), "feed": (job.feed, 500), "units": (job.units, "mm100")}
+        return [f"--{name}={value}" for name, (value, usual) in options.items() if value != usual or self.rng.random() < 0.5]
+
+    def read_carved(self, job, chains, common, path):
+        """What is written is read as it was meant, and called clear."""
+        moves = definitions.code_moves(job, chains)
+        words = ["moves", f"--code={path}", f"--units={job.units}"]
+        self.agree(CARVED_MOVES, (0, moves_text(moves)), self.run(*words), *words)
+        words = ["check", *common, f"--code={path}", f"--units={job.units}"]
+        self.agree(CARVED_CLEAR, (0, f"clear {len(moves)} moves\n"), self.run(*words), *words)
+
+    def spread_of(self, chains):
+        depths = [max(node.depth for node in chain) for chain in chains]
+        self.spread["carve: " + ("no chain" if not chains else "one chain" if len(chains) == 1 else "several chains")] += 1
+        self.spread["carve, in all: nodes"] += sum(map(len, chains))
+        self.spread["carve, in all: chains below the surface"] += sum(depth > 0 for depth in depths)
+        self.spread["carve, in all: chains at the surface"] += sum(depth == 0 for depth in depths)
 
     def compare_checks(self, inside):
         for number in range(CODES):
@@ -202,6 +240,7 @@ class Comparison:
         self.compare_contacts()
         self.compare_listed()
         self.compare_checks(inside)
+        self.compare_carved()
         if not self.differences:
             shutil.rmtree(self.folder)
         return self
@@ -210,6 +249,11 @@ class Comparison:
 def spot_text(spot):
     """The numbers of a spot in grid units, a decimal where they aren't whole."""
     return ",".join(("-" if n < 0 else "") + f"{abs(n) // 10}" + (f".{abs(n) % 10}" if n % 10 else "") for n in spot)
+
+
+def moves_text(moves):
+    """The moves as they are listed."""
+    return "".join(f"{mv.line} {spot_text(mv.start)} {spot_text(mv.end)}\n" for mv in moves) + f"moves {len(moves)}\n"
 
 
 def due_of(found, moves):

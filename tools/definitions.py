@@ -11,6 +11,11 @@ from typing import NamedTuple
 
 MOST_DEPTH = 32767
 MOST_PIECES = 8192
+MOST_HALVED = 8
+
+# how many zeros a length's unit has, and the word of that unit, for each --units
+ZEROS = {"mm10": 1, "mm100": 2, "mm1000": 3, "in100": 2, "in1000": 3}
+UNIT_WORDS = {units: "G20" if units.startswith("in") else "G21" for units in ZEROS}
 
 
 class Bit(NamedTuple):
@@ -61,6 +66,31 @@ class Move(NamedTuple):
     line: int
     start: Spot
     end: Spot
+
+
+class Node(NamedTuple):
+    """A grid point, and how deep the tip goes there, in grid units."""
+
+    at: tuple
+    depth: int
+
+
+class Step(NamedTuple):
+    """The node that a step of a link leads to, by a lift or straight."""
+
+    node: Node
+    is_lift: bool
+
+
+class Job(NamedTuple):
+    """What a program is written for."""
+
+    units: str
+    bit: Bit
+    limit: int
+    step: int
+    safe: int
+    feed: int
 
 
 def edges_of(loops):
@@ -339,3 +369,145 @@ def tangent(edges, contact, rmax):
         if j >= 1 and is_side_taken(edges, centre):
             return Disc(side, j, rounded(centre))
     return Disc("none", 0, rounded(contact_point(edge, contact)))
+
+
+def deepest(edges, bit, limit, p):
+    return Node(p, greatest_depth(edges, bit, limit, p))
+
+
+def spot_over(p, height):
+    return Spot(10 * p[0], 10 * p[1], 10 * height)
+
+
+def is_straight(edges, bit, p, q):
+    """The move between the nodes is clear."""
+    return fault_of(edges, bit, Move(0, spot_over(p.at, -p.depth), spot_over(q.at, -q.depth))) is None
+
+
+def are_at_surface(p, q):
+    return p.depth == 0 and q.depth == 0
+
+
+def are_neighbours(p, q):
+    return all(abs(q[i] - p[i]) <= 1 for i in (0, 1))
+
+
+def halfway(p, q):
+    return tuple((p[i] + q[i]) // 2 for i in (0, 1))
+
+
+def link(edges, bit, limit, p, q, halvings):
+    """The steps from one node to the next, whose way may be halved so many times."""
+    if p == q:
+        return []
+    if are_at_surface(p, q):
+        return [Step(q, True)]
+    if is_straight(edges, bit, p, q):
+        return [Step(q, False)]
+    if halvings == 0 or are_neighbours(p.at, q.at):
+        return [Step(q, True)]
+    mid = deepest(edges, bit, limit, halfway(p.at, q.at))
+    if mid.depth == 0:
+        return [Step(q, True)]
+    return link(edges, bit, limit, p, mid, halvings - 1) + link(edges, bit, limit, mid, q, halvings - 1)
+
+
+def nodes_round(loops, bit, limit, step):
+    """For each loop the nodes of its contacts: at the centre of each one's disc, as deep as fits there."""
+    edges = edges_of(loops)
+    nodes = {}
+    for contact in contacts(edges, step):
+        node = deepest(edges, bit, limit, tangent(edges, contact, bit.rmax).centre)
+        nodes.setdefault(loop_number(loops, contact.edge), []).append(node)
+    return list(nodes.values())
+
+
+def loop_number(loops, edge):
+    """The number of the loop that the edge of this number belongs to."""
+    return [number for number, loop in enumerate(loops) for _ in loop][edge]
+
+
+def closed(nodes):
+    """The nodes, and the first one once more."""
+    return nodes + nodes[:1]
+
+
+def chains_along(first, steps):
+    """From the first node on a straight step adds its node, and a lift ends the chain and begins the next."""
+    chains = [[first]]
+    for node, is_lift in steps:
+        if is_lift:
+            chains.append([node])
+        else:
+            chains[-1].append(node)
+    return chains
+
+
+def chains_round(edges, bit, limit, nodes):
+    stops = closed(nodes)
+    steps = [step for p, q in zip(stops, stops[1:]) for step in link(edges, bit, limit, p, q, MOST_HALVED)]
+    return chains_along(stops[0], steps)
+
+
+def nearest_chain(chains, place, left):
+    """Of the chains that are left the one whose first node is nearest to the place, the least number on ties."""
+    return min(left, key=lambda number: (squared_distance(place, chains[number][0].at), number))
+
+
+def place_behind(chain):
+    return chain[-1].at
+
+
+def ordered(chains):
+    """The chains as they are cut: always the nearest next."""
+    place, left, order = (0, 0), list(range(len(chains))), []
+    while left:
+        order.append(nearest_chain(chains, place, left))
+        left.remove(order[-1])
+        place = place_behind(chains[order[-1]])
+    return [chains[number] for number in order]
+
+
+def plan(loops, bit, limit, step):
+    """The chains of all loops, in the order in which they are cut."""
+    edges = edges_of(loops)
+    rounds = nodes_round(loops, bit, limit, step)
+    return ordered([chain for nodes in rounds for chain in chains_round(edges, bit, limit, nodes)])
+
+
+def length_text(units, length):
+    """A length in grid units, with as many decimals as its unit has zeros."""
+    whole, part = divmod(abs(length), 10 ** ZEROS[units])
+    return f"{'-' if length < 0 else ''}{whole}.{part:0{ZEROS[units]}}"
+
+
+def chain_lines(job, chain):
+    """Over the first node and down to it, straight to each other one, and up."""
+
+    def words(**axes):
+        return " ".join(letter + length_text(job.units, length) for letter, length in axes.items())
+
+    (x, y), depth = chain[0]
+    down = [f"G0 {words(X=x, Y=y)}", f"G1 {words(Z=-depth)}"]
+    return down + [f"G1 {words(X=x, Y=y, Z=-z)}" for (x, y), z in chain[1:]] + [f"G0 {words(Z=job.safe)}"]
+
+
+def code_lines(job, chains):
+    """The lines of the program that cuts the chains."""
+    bit = job.bit
+    lines = [f"(bit {bit.sn}/{bit.sd} rmax {bit.rmax} limit {job.limit} step {job.step})"]
+    lines += [UNIT_WORDS[job.units], "G90", f"F{job.feed}", f"G0 Z{length_text(job.units, job.safe)}"]
+    return lines + [line for chain in chains for line in chain_lines(job, chain)] + ["M2"]
+
+
+def code_moves(job, chains):
+    """The moves of that program; the first is the one that its line 7 makes."""
+    spots = []
+    for chain in chains:
+        nodes = [spot_over(node.at, -node.depth) for node in chain]
+        spots += [spot_over(chain[0].at, job.safe), *nodes, spot_over(chain[-1].at, job.safe)]
+    return [Move(line, *ends) for line, ends in enumerate(zip(spots, spots[1:]), 7)]
+
+
+def code_text(job, chains):
+    return "".join(line + "\n" for line in code_lines(job, chains))

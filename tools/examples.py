@@ -5,8 +5,9 @@
 
 A case is a folder: README.md says in two sentences what it shows, `words` has the words of the command, one a line, `expected` the
 whole text that it writes, `status` its exit status if that isn't 0; the other files are those that it reads. Each command
-line `$ engrave_cli ..` in README.md and docs/ has to be the words of a case, and the lines under it, what the case writes. A
-block under a line `<!-- FILE -->` has to be that file of examples/. Each case that docs/MESSAGES.md names beside a line has to write it.
+line `$ engrave_cli ..` in README.md and docs/ has to be the words of a case, and the lines under it, what the case writes; where
+the line ends with `> FILE` there are none, and each file of this name in examples/ has to be what the case writes. A block under
+a line `<!-- FILE -->` has to be that file of examples/. Each case that docs/MESSAGES.md names beside a line has to write it.
 """
 
 import argparse
@@ -67,9 +68,14 @@ def document_faults(path, cases):
             yield f"the block isn't the file {named[1]}"
         runs = "\n".join(block).split("$ engrave_cli ")
         for run in runs[1:] if "\n".join(block).startswith("$ engrave_cli ") else []:
-            words, _, text = run.partition("\n")
+            line, _, text = run.partition("\n")
+            words, _, file = line.partition(" > ")
             case = shown.get(words)
-            if case is None:
+            if case is not None and file:
+                files = list((TOP / "examples").glob("*/" + file))
+                if text.strip() or not files or any(path.read_bytes() != case.expected for path in files):
+                    yield f"{words!r} doesn't write what each {file} of examples/ holds"
+            elif case is None:
                 yield f"no case has the words {words!r}"
             elif case.expected.decode().rstrip("\n") != text.rstrip("\n"):
                 yield f"{words!r} writes {case.expected.decode()!r}"

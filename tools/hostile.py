@@ -56,6 +56,8 @@ def row_cases():
     for drawing, code, status, line in rows.CHECKS:
         yield case_of("checks by hand", rows.CHECK, {"d": drawing, "c": code}, status, line)
     plain = {"d": rows.SQUARE, "c": rows.DOWN}
+    for words, drawing, status, text in rows.CARVINGS:
+        yield case_of("carvings by hand", words, {"d": drawing}, status, text)
     for words, status, text in rows.WORDS:
         yield case_of("words by hand", words, plain, status, text)
     for words, status, text in rows.NAMES + (rows.UNREADABLE if os.geteuid() else []):
@@ -83,10 +85,11 @@ def cut_cases():
         for end in range(len(code)):
             yield due_case("cut codes", moves, b"", code[:end])
             yield due_case("cut codes", check, rows.ANGLE, code[:end])
-    contacts = rows.CONTACTS.encode().split()
-    for end in range(len(rows.PLATE)):
-        yield due_case("cut drawings", contacts, rows.PLATE[:end], b"")
-    for words in (rows.CONTACTS, rows.PROBE + " --limit=70 --form=loops", rows.MOVES + " --units=mm1000", rows.CHECK):
+    for words in (rows.CONTACTS, rows.CARVE):
+        for end in range(len(rows.PLATE)):
+            yield due_case("cut drawings", words.encode().split(), rows.PLATE[:end], b"")
+    listed = rows.PROBE + " --limit=70 --form=loops", rows.MOVES + " --units=mm1000"
+    for words in (rows.CONTACTS, rows.CARVE + " --safe=1 --feed=1", *listed, rows.CHECK):
         for end in range(len(words)):
             yield due_case("cut words", words[:end].encode().split(), rows.SQUARE, rows.DOWN)
 
@@ -94,7 +97,8 @@ def cut_cases():
 def scarce_cases():
     """Runs that have less and less memory: they answer, or end with the status that tells the want of it."""
     far = [rows.FAR, (b"Z9\n", 300_000)]
-    for name, words, status, text in (("d", rows.PROBE, 0, "depth 0"), ("c", rows.MOVES, 0, "moves 300000")):
+    carved = ("d", rows.CARVE, 3, "input too many chains")
+    for name, words, status, text in (("d", rows.PROBE, 0, "depth 0"), carved, ("c", rows.MOVES, 0, "moves 300000")):
         file = [(b"0,0 1,1\n", 65_536)] if name == "d" else far
         for mebibytes in rows.SPACES:
             case = case_of("scarce memory", words, {name: file}, status, text)
@@ -130,11 +134,11 @@ def changed(chance, text, tokens):
 
 def random_case(chance):
     """One changed input."""
-    reader = chance.choice(("drawings", "codes", "checks", "contacts", "words"))
+    reader = chance.choice(("drawings", "codes", "checks", "contacts", "carvings", "words"))
     drawing, code = chance.choice(rows.DRAWING_BASES), chance.choice(rows.CODE_BASES)
     words = chance.choice(rows.WORD_BASES[reader]).encode()
     either = chance.random() < 0.5
-    if reader in ("drawings", "contacts") or reader == "checks" and either:
+    if reader in ("drawings", "contacts", "carvings") or reader == "checks" and either:
         drawing = changed(chance, drawing, rows.DRAWING_TOKENS)
     if reader == "codes" or reader == "checks" and not either:
         code = changed(chance, code, rows.CODE_TOKENS)
@@ -193,18 +197,28 @@ def count_in(file, text):
 
 
 def bounds(case):
-    """The most seconds and MiB that are stated for a case."""
+    """The most seconds, and MiB without those for lines, that are stated for a case."""
     size = sum(len(piece) * count for file in case.files.values() for piece, count in file)
     # Devices that never end are read up to the limit.
     size += sum(limit for word in case.words for name, limit in rows.ENDLESS.items() if word.startswith(name))
     moves = min(1 + count_in(case.files.get("c", []), b"\n"), rows.MOST_MOVES)
     pairs = moves * count_in(case.files.get("d", []), b",") if case.words[:1] == [b"check"] else 0
-    points = count_in(case.files.get("d", []), b",") if case.words[:1] == [b"contacts"] else 0
+    points = count_in(case.files.get("d", []), b",") if case.words[:1] in ([b"contacts"], [b"carve"]) else 0
     contacts = min(points * (1 + hostile_expected.MOST_PIECES), hostile_expected.MOST_CONTACTS)
+    nodes = min(contacts * hostile_expected.MOST_STEPS, hostile_expected.MOST_NODES) if case.words[:1] == [b"carve"] else 0
     memory = rows.BYTES_A_BYTE * size + rows.BYTES_A_MOVE * moves + rows.BYTES_A_WORD * len(case.words)
     memory += rows.BYTES_A_CONTACT * contacts
-    reading = rows.SECONDS_A_MEBIBYTE * size / MEBIBYTE + rows.SECONDS_A_MOVE * moves + rows.SECONDS_A_CONTACT * contacts
-    return rows.SECONDS + reading + rows.SECONDS_A_PAIR * pairs, min(rows.MEBIBYTES + memory / MEBIBYTE, rows.MOST_MEBIBYTES)
+    reading = rows.SECONDS_A_MEBIBYTE * size / MEBIBYTE + rows.SECONDS_A_MOVE * moves
+    planning = rows.SECONDS_A_CONTACT * contacts + rows.SECONDS_A_NODE * nodes
+    return rows.SECONDS + reading + planning + rows.SECONDS_A_PAIR * pairs, rows.MEBIBYTES + memory / MEBIBYTE
+
+
+def lines_of(case, status):
+    """How many lines a carved program has; where it wasn't written, how many nodes it may have had."""
+    if case.words[:1] != [b"carve"] or status not in (0, 3, 7):
+        return 0
+    with open("text", "rb") as text:
+        return hostile_expected.MOST_NODES if status else sum(1 for _ in text)
 
 
 def spawn(case):
@@ -274,6 +288,8 @@ def is_in_form(case, status):
         line += text.read(1024)
     if (command, status) == (b"contacts", 0):
         return line == b""
+    if (command, status) == (b"carve", 0):
+        return line == b"M2\n" and listed >= 5
     if (command, status) == (b"moves", 0):
         return line == b"moves %d\n" % listed
     return form is not None and listed == 0 and form.fullmatch(line) is not None
@@ -311,6 +327,8 @@ def perform(case):
     write_files(case.files)
     most_seconds, most_mebibytes = bounds(case)
     ended = run(case, most_seconds)
+    most_mebibytes += rows.BYTES_A_LINE * lines_of(case, ended.status) / MEBIBYTE
+    most_mebibytes = min(most_mebibytes, rows.MOST_MEBIBYTES)
     wrong = wrong_with(case, ended, most_seconds, most_mebibytes)
     return case.part, ended, wrong and f"{case.part}: {wrong}\n{keep(case)}"
 

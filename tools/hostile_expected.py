@@ -6,12 +6,14 @@ from math import isqrt
 
 MOST_POINTS, MOST_DRAWING, MOST_CODE = 131_072, 16_777_216, 536_870_912
 MOST_PIECES, MOST_CONTACTS = 8192, 1_048_576
+MOST_CHAINS, MOST_NODES, MOST_STEPS = 131_072, 4_194_304, 256
 PER_UNIT = {b"mm10": 10, b"mm100": 100, b"mm1000": 1000, b"in100": 100, b"in1000": 1000}
 OPTIONS = {
     b"probe": (b"drawing form units bit rmax at limit", b"drawing bit rmax at"),
     b"contacts": (b"drawing form units step rmax", b"drawing step rmax"),
     b"moves": (b"code units", b"code"),
     b"check": (b"drawing form units bit rmax code", b"drawing bit rmax code"),
+    b"carve": (b"drawing form units bit rmax step limit safe feed", b"drawing bit rmax step"),
 }
 G_TAKEN = {Fraction(number, 10) for number in (170, 200, 210, 400, 490, 540, 610, 640, 800, 900, 911, 940)}
 
@@ -61,6 +63,8 @@ def request(words):
         (b"rmax", b"", 1, 8191),
         (b"limit", b"", 1, 32_767),
         (b"step", b"", 1, 32_767),
+        (b"safe", b"", 1, 32_767),
+        (b"feed", b"", 1, 10_000),
     ):
         if name in values:
             taken[name] = numbers(values[name], separator, low, high)
@@ -223,6 +227,16 @@ def file_of(files, name, which, most):
     return files[name]
 
 
+def empty_program(values, taken):
+    """The program that is written where nothing is drawn."""
+    units = values.get(b"units", b"mm100")
+    note = b"(bit %d/%d rmax %d limit %d step %d)" % (*taken[b"bit"], *taken[b"rmax"], *taken.get(b"limit", [32_767]), *taken[b"step"])
+    safe, zeros = taken.get(b"safe", [200])[0], len(str(PER_UNIT[units])) - 1
+    setup = (b"G20" if units.startswith(b"in") else b"G21", b"G90", b"F%d" % taken.get(b"feed", [500])[0])
+    up = b"G0 Z%d.%0*d" % (safe // PER_UNIT[units], zeros, safe % PER_UNIT[units])
+    return b"\n".join((note, *setup, up, b"M2\n"))
+
+
 def due(words, files):
     """The statuses that may be due, and the text that is due with the first of them; None where it isn't known here."""
     try:
@@ -237,6 +251,10 @@ def due(words, files):
         if command == b"contacts":
             # Where there are some, their lines are judged by their form.
             return (0,), None if contacts_of(edges, taken[b"step"][0]) else b""
+        if command == b"carve":
+            # Where the contacts are few, so are the chains. What is written is judged by its form.
+            few = MOST_STEPS * contacts_of(edges, taken[b"step"][0]) <= MOST_CHAINS
+            return ((0,) if few else (0, 3)), None if edges else empty_program(values, taken)
         moves = moves_of(file_of(files, values[b"code"], b"code", MOST_CODE), values.get(b"units", b"mm100"))
     except UnicodeDecodeError:
         return (8,), b""

@@ -10,8 +10,12 @@ COUNT = rb"(0|[1-9][0-9]*)"
 SPOT = rb",".join([rb"(0|-?[1-9][0-9]{0,4}|-?(0|[1-9][0-9]{0,4})\.[1-9])"] * 3)
 MOVE = re.compile(rb"[1-9][0-9]* " + SPOT + b" " + SPOT + rb"\n")
 CONTACT = re.compile(rb"%s %s %s/[1-9][0-9]* (left|right|none) %s -?%s,-?%s\n" % ((COUNT,) * 6))
+LENGTH = rb"-?(0|[1-9][0-9]*)\.[0-9]{1,3}"
+CARVED_LINES = [rb"\(bit %s/%s rmax %s limit %s step %s\)" % ((COUNT,) * 5), rb"G2[01]", rb"G90", rb"F" + COUNT]
+CARVED_LINES += [rb"G[01] Z%s" % LENGTH, rb"G0 X%s Y%s" % ((LENGTH,) * 2), rb"G1 X%s Y%s Z%s" % ((LENGTH,) * 3)]
+CARVED_LINE = re.compile(rb"(%s)\n" % rb"|".join(CARVED_LINES))
 # The lines that are listed by a command, before its last line or alone.
-LISTED_LINES = {b"moves": MOVE, b"contacts": CONTACT}
+LISTED_LINES = {b"moves": MOVE, b"contacts": CONTACT, b"carve": CARVED_LINE}
 LOOPS_KINDS = rb" (syntax|out of range|same point|too many|short)"
 CODE_KINDS = rb" (word|number|off grid|twice|units|incremental|unplaced|out of range|long line|open comment|too many)"
 FORMS = {
@@ -20,7 +24,7 @@ FORMS = {
     (b"check", 0): rb"clear " + COUNT + rb" moves\n",
     (b"check", 1): rb"line [1-9][0-9]* (too deep|gouge edge " + COUNT + rb"|outside)\n",
     2: rb"usage\n",
-    3: rb"input (too long (drawing|code)|loops " + COUNT + LOOPS_KINDS + rb"|code line [1-9][0-9]*" + CODE_KINDS + rb"|step too fine " + COUNT + rb"|too many contacts)\n",
+    3: rb"input (too long (drawing|code)|loops " + COUNT + LOOPS_KINDS + rb"|code line [1-9][0-9]*" + CODE_KINDS + rb"|step too fine " + COUNT + rb"|too many (contacts|nodes|chains))\n",
     4: rb"absent (drawing|code)\n",
     5: rb"read fault\n",
     6: rb"",
@@ -38,6 +42,7 @@ PROBE = "probe --drawing=d --at=500,500 --bit=1/1 --rmax=600"
 MOVES = "moves --code=c"
 CHECK = "check --drawing=d --code=c --bit=1/1 --rmax=200"
 CONTACTS = "contacts --drawing=d --step=250 --rmax=600"
+CARVE = "carve --drawing=d --bit=1/1 --rmax=600 --step=500"
 
 # Drawings for PROBE: the bytes, the status, the line.
 DRAWINGS = [
@@ -209,6 +214,48 @@ CHECKS = [
     ([(b"0,0 1,0\n", 60_000)], DOWN, 1, "line 4 outside"),
 ]
 
+# Drawings for carve: the words, the bytes, the status, the text.
+FOUR = b"0,0 4,0 4,4 0,4\n"
+FINE = CARVE.replace("600", "2").replace("500", "2")
+HEAD = "(bit 1/1 rmax 2 limit 32767 step 2)\nG21\nG90\nF500\nG0 Z2.00\n"
+CORNER = "G0 X%s Y%s\nG1 Z0.00\nG0 Z2.00\n"
+CARVINGS = [
+    (CARVE, b"", 0, "(bit 1/1 rmax 600 limit 32767 step 500)\nG21\nG90\nF500\nG0 Z2.00\nM2"),
+    (CARVE + " --units=mm1000", b"#\n", 0, "(bit 1/1 rmax 600 limit 32767 step 500)\nG21\nG90\nF500\nG0 Z0.200\nM2"),
+    (CARVE + " --units=in1000 --safe=1 --feed=1 --limit=1", b"", 0, "(bit 1/1 rmax 600 limit 1 step 500)\nG20\nG90\nF1\nG0 Z0.001\nM2"),
+    (
+        FINE,
+        FOUR,
+        0,
+        HEAD
+        + """G0 X0.00 Y0.00
+G1 Z0.00
+G1 X0.02 Y0.02 Z-0.02
+G1 X0.04 Y0.00 Z0.00
+G1 X0.02 Y0.02 Z-0.02
+G1 X0.04 Y0.04 Z0.00
+G1 X0.02 Y0.02 Z-0.02
+G1 X0.00 Y0.04 Z0.00
+G1 X0.02 Y0.02 Z-0.02
+G1 X0.00 Y0.00 Z0.00
+G0 Z2.00
+M2""",
+    ),
+    (
+        FINE.replace("step=2", "step=4"),
+        FOUR,
+        0,
+        HEAD.replace("step 2", "step 4")
+        + "".join(CORNER % place for place in (("0.00", "0.00"), ("0.00", "0.00"), ("0.04", "0.00"), ("0.04", "0.04"), ("0.00", "0.04")))
+        + "M2",
+    ),
+    # There and back: nothing is inside.
+    (FINE, b"0,0 1,0\n", 0, HEAD + "".join(CORNER % place for place in (("0.00", "0.00"), ("0.00", "0.00"), ("0.01", "0.00"))) + "M2"),
+    (CARVE, b"0,0\n", 3, "input loops 0 short"),
+    (FINE, b"-32768,0 32767,0 0,1\n", 3, "input step too fine 0"),
+    (FINE, FOUR + b"0,0 32767,0 0,9\n", 3, "input step too fine 4"),
+]
+
 # Words beside the files d with SQUARE and c with DOWN: the words, the status, the text. The system passes no word of more
 # than 131,071 bytes on.
 AT = "--drawing=d --at=500,500 --bit=1/1"
@@ -264,6 +311,56 @@ WORDS = [
 0 3 0/2 none 0 0,1000
 0 3 1/2 left 1 1,500
 0 3 2/2 none 0 0,0"""),
+    (
+        CARVE + " --units=in1000 --safe=32767 --feed=10000 --limit=1",
+        0,
+        """(bit 1/1 rmax 600 limit 1 step 500)
+G20
+G90
+F10000
+G0 Z32.767
+G0 X0.000 Y0.000
+G1 Z0.000
+G1 X0.500 Y0.500 Z-0.001
+G1 X1.000 Y0.000 Z0.000
+G1 X0.500 Y0.500 Z-0.001
+G1 X1.000 Y1.000 Z0.000
+G1 X0.500 Y0.500 Z-0.001
+G1 X0.000 Y1.000 Z0.000
+G1 X0.500 Y0.500 Z-0.001
+G1 X0.000 Y0.000 Z0.000
+G0 Z32.767
+M2""",
+    ),
+    ("carve", 2, "usage"),
+    (CARVE.replace("--drawing=d", ""), 2, "usage"),
+    (CARVE.replace("--bit=1/1", ""), 2, "usage"),
+    (CARVE.replace("--rmax=600", ""), 2, "usage"),
+    (CARVE.replace("--step=500", ""), 2, "usage"),
+    (CARVE + " --step=500", 2, "usage"),
+    (CARVE + " --safe=0", 2, "usage"),
+    (CARVE + " --safe=32768", 2, "usage"),
+    (CARVE + " --safe=2.00", 2, "usage"),
+    (CARVE + " --safe=", 2, "usage"),
+    (CARVE + " --feed=0", 2, "usage"),
+    (CARVE + " --feed=10001", 2, "usage"),
+    (CARVE + " --feed -1", 2, "usage"),
+    (CARVE + " --limit=0", 2, "usage"),
+    (CARVE + " --limit=32768", 2, "usage"),
+    (CARVE + " --form=dxf", 2, "usage"),
+    (CARVE + " --pitch=10", 2, "usage"),
+    (CARVE + " --pocket=none", 2, "usage"),
+    (CARVE + " --over=50", 2, "usage"),
+    (CARVE + " --code=c", 2, "usage"),
+    (CARVE + " --at=5,5", 2, "usage"),
+    (CARVE.replace("step=500", "step=0"), 2, "usage"),
+    (CARVE.replace("step=500", "step=32768"), 2, "usage"),
+    (CARVE.replace("600", "8192"), 2, "usage"),
+    (CARVE.replace("1/1", "0/1"), 2, "usage"),
+    (CARVE + " --safe=0 --drawing=nothing", 2, "usage"),
+    (PROBE + " --safe=1", 2, "usage"),
+    (CHECK + " --feed=1", 2, "usage"),
+    (CONTACTS + " --safe=1", 2, "usage"),
     (PROBE + " -- --", 2, "usage"),
     (PROBE + " -- d", 2, "usage"),
     (PROBE + " -", 2, "usage"),
@@ -345,6 +442,10 @@ NAMES = [
     ("probe --drawing=/dev/full --at=5,5 --bit=1/1 --rmax=9", 3, "input too long drawing"),
     ("probe --drawing=/dev/urandom --at=5,5 --bit=1/1 --rmax=9", 3, "input too long drawing"),
     ("probe --drawing=pipe --at=5,5 --bit=1/1 --rmax=9", 5, "read fault"),
+    (CARVE.replace("=d", "=nothing"), 4, "absent drawing"),
+    (CARVE.replace("=d", "=folder"), 5, "read fault"),
+    (CARVE.replace("=d", "=c"), 3, "input loops 0 syntax"),
+    (CARVE.replace("=d", "=/dev/zero"), 3, "input too long drawing"),
     ("check --drawing=nothing --code=folder --bit=1/1 --rmax=9", 4, "absent drawing"),
     ("check --drawing=folder --code=nothing --bit=1/1 --rmax=9", 5, "read fault"),
     ("check --drawing=d --code=nothing --bit=1/1 --rmax=9", 4, "absent code"),
@@ -359,7 +460,8 @@ NAMES = [
 COPIES = ["two\nlines", "naïve ☃", "two words", "--code"]
 
 # Outputs that take nothing, for answers of each kind: the words.
-UNWRITTEN = [PROBE, MOVES, CHECK, CONTACTS, "usage", "moves --code=nothing", "moves --code=folder", "moves --code=d"]
+UNWRITTEN = [PROBE, MOVES, CHECK, CONTACTS, CARVE, CARVE.replace("=500", "=0"), "usage"]
+UNWRITTEN += ["moves --code=nothing", "moves --code=folder", "moves --code=d"]
 
 # Names that are read up to the limit, and how far that is.
 DRAWING_LIMIT, CODE_LIMIT = 16_777_216, 536_870_912
@@ -371,6 +473,14 @@ RING = [(b"0,0 1,1 ", 65_535), (b"2,3 4,5\n", 1)]
 NEAR = [(b"-9999,-9999 9999,-9999 9999,9999 -9999,9999\n", 1), (b"0,0 1,1\n", 65_000)]
 # The largest square.
 WHOLE = b"-32768,-32768 32767,-32768 32767,32767 -32768,32767\n"
+
+
+# A square that the step 8 divides into so many pieces a side.
+def square_of(pieces):
+    end = 8 * pieces - 32768
+    return b"-32768,-32768 %d,-32768 %d,%d -32768,%d\n" % (end, end, end, end)
+
+
 LARGE = [
     (PROBE, [(b"1", DRAWING_LIMIT)], [], 3, "input loops 0 syntax"),
     (PROBE, [(b"1", DRAWING_LIMIT + 1)], [], 3, "input too long drawing"),
@@ -392,6 +502,11 @@ LARGE = [
     (CONTACTS.replace("250", "8"), [(WHOLE, 31)], [], 0, "30 123 8192/8192 none 0 -32768,-32768"),
     (CONTACTS.replace("250", "8"), [(WHOLE, 33)], [], 3, "input too many contacts"),
     (CONTACTS.replace("250", "7"), [(SQUARE, 1), (WHOLE, 33)], [], 3, "input step too fine 4"),
+    # Where no depth fits, each node is a chain, and the first one twice: 3 * 32,769 + 32,765, and one more.
+    (CARVE.replace("1/1", "2/1").replace("600", "1").replace("500", "8"), [(WHOLE, 3), (square_of(8191), 1)], [], 0, "M2"),
+    (CARVE.replace("1/1", "2/1").replace("600", "1").replace("500", "8"), [(WHOLE, 3), (square_of(8190), 1), (b"0,0 8,0 8,8 0,8\n", 1)], [], 3, "input too many chains"),
+    (CARVE.replace("500", "8"), [(WHOLE, 33)], [], 3, "input too many contacts"),
+    (CARVE.replace("500", "7"), [(SQUARE, 1), (WHOLE, 33)], [], 3, "input step too fine 4"),
     (MOVES, [], [(b"N1\n", 1_000_000), (b"Q", 1)], 3, "input code line 1000001 word"),
     (MOVES, [], [(b"(" + b"a" * 1022 + b")\n", 20_000)], 0, "moves 0"),
     (MOVES, [], [(b"X" + b"0" * 1023 + b"\n", 20_000)], 0, "moves 0"),
@@ -402,7 +517,14 @@ LARGE = [
 # The largest inputs, likewise.
 FAR = (b"X-327.68Y-327.68Z327.67\n", 1)
 MOST_MOVES = 8_388_608
+# Small holes far apart in a plate. Round each corner of one the way is halved to the last, and takes more than a hundred nodes.
+HOLES = [WHOLE] + [
+    b"%d,%d %d,%d %d,%d %d,%d\n" % (x, y, x + 4, y, x + 4, y + 4, x, y + 4)
+    for x in range(-32_000, 32_000, 600)
+    for y in range(-32_000, 32_000, 600)
+]
 HUGE = [
+    (CARVE.replace("1/1", "1/200").replace("600", "160").replace("500", "32767"), [(b"".join(HOLES), 1)], [], 3, "input too many nodes"),
     (MOVES, [], [(b" ", CODE_LIMIT)], 3, "input code line 1 long line"),
     (MOVES, [], [(b"\n", CODE_LIMIT)], 0, "moves 0"),
     (MOVES, [], [(b";" + b"x" * 1022 + b"\n", CODE_LIMIT // 1024)], 0, "moves 0"),
@@ -424,10 +546,11 @@ HUGE = [
 # Limits of the address space, in MiB, under which an answer may be the want of memory.
 SPACES = [*range(4, 40, 2), 48, 64, 96, 128]
 
-# What is stated of memory: so many MiB, and bytes for each byte of the files, move of the code, contact and word; never more than the
-# last, in MiB. And of time: so many seconds, and seconds for each MiB, move, contact, and, in a check, pair of a move and an edge.
-MEBIBYTES, BYTES_A_BYTE, BYTES_A_MOVE, BYTES_A_CONTACT, BYTES_A_WORD, MOST_MEBIBYTES = 32, 1, 80, 64, 512, 1024
-SECONDS, SECONDS_A_MEBIBYTE, SECONDS_A_MOVE, SECONDS_A_CONTACT, SECONDS_A_PAIR = 2, 0.05, 2e-6, 1e-5, 2e-7
+# What is stated of memory: so many MiB, and bytes for each byte of the files, move of the code, contact, line of a carved program, and
+# word; never more than the last, in MiB. And of time: so many seconds, and seconds for each MiB, move, contact, node that there may
+# be, and, in a check, pair of a move and an edge.
+MEBIBYTES, BYTES_A_BYTE, BYTES_A_MOVE, BYTES_A_CONTACT, BYTES_A_LINE, BYTES_A_WORD, MOST_MEBIBYTES = 32, 1, 80, 64, 100, 512, 1024
+SECONDS, SECONDS_A_MEBIBYTE, SECONDS_A_MOVE, SECONDS_A_CONTACT, SECONDS_A_NODE, SECONDS_A_PAIR = 2, 0.05, 2e-6, 1e-5, 3e-5, 2e-7
 
 # What changed inputs are made of: inputs to begin with, and what is put into them.
 DRAWING_BASES = [SQUARE, ANGLE, PLATE, b"0,0 1,1", b"-5,-5 999,-5 500,999\r\n0,0 9,0 0,9\r\n", b""]
@@ -446,7 +569,8 @@ WORD_BASES = {
     "codes": [MOVES, MOVES + " --units=mm1000", MOVES + " --units=in100", MOVES + " --units=mm10"],
     "checks": [CHECK, CHECK + " --units=mm10", CHECK.replace("1/1", "2000/1999")],
     "contacts": [CONTACTS, CONTACTS.replace("250", "1"), CONTACTS + " --units=in100"],
-    "words": [PROBE + " --limit=7", CONTACTS, MOVES + " --units=mm100", CHECK, APART],
+    "carvings": [CARVE, CARVE.replace("500", "5"), CARVE.replace("1/1", "1/200") + " --units=in1000", FINE],
+    "words": [PROBE + " --limit=7", CONTACTS, MOVES + " --units=mm100", CHECK, APART, CARVE + " --safe=7 --feed=8"],
 }
 ALPHABET = b"0123456789012345678901234567890123456789,,,,....---++     \t\t\r\n\n\n\n\n#GXYZMNgxyzFSP()%;=/\xe9"
 BREAKS = [b"\n", b"\r\n", b"\r", b" ", b"\t", b"\0", b"\xef\xbb\xbf", b"\v"]
@@ -455,7 +579,7 @@ DRAWING_TOKENS = [*DRAWING_TOKENS.split(b"|"), b"\n#", *BREAKS, *DRAWING_BASES]
 CODE_TOKENS = b"G0 G1 G2 G20 G21 G90 G91 G91.1 M2 M30 M6 X1 Y2.5 Z-1 Z2 X1.005 X327.68 Z-327.68 N10 F100 S1 P.1 O1 #1=2 [1]"
 CODE_TOKENS = [*CODE_TOKENS.split(), *b"/ ( ) (a) ; % . - + -- 1e3 0 99".split(), b"9" * 27, *BREAKS, *CODE_BASES]
 WORD_TOKENS = b"--|-|=|--help|-h|--limit=1|--limit|--units=mm10|--form=loops|--code=c|--at=1,1|--rmax=0|1/1|8191|32768|-5,5|,"
-WORD_TOKENS = [*WORD_TOKENS.split(b"|"), *b" | --| - | -- |\xc3\xa9|\xff|\n|  |probe| d|0".split(b"|")]
+WORD_TOKENS = [*WORD_TOKENS.split(b"|"), *b"--safe=1|--feed=1|--pitch=1| | --| - | -- |\xc3\xa9|\xff|\n|  |probe| d|0".split(b"|")]
 
 # Where the run isn't root's: the words, the status, the text.
 UNREADABLE = [("moves --code=secret", 5, "read fault")]

@@ -67,6 +67,29 @@ def pieces_of_rounded_length(edge, step):
     return max(1, length_down(edge) // step)
 
 
+CHAINS, CHAIN_LINES = d.chains_along, d.chain_lines
+
+
+def always_lifted(edges, bit, limit, p, q, halvings):
+    return [] if p == q else [d.Step(q, True)]
+
+
+def greatest_on_ties(chains, place, left):
+    return min(left, key=lambda number: (d.squared_distance(place, chains[number][0].at), -number))
+
+
+def deep_chains(first, steps):
+    return [chain for chain in CHAINS(first, steps) if any(node.depth for node in chain)]
+
+
+def halfway_up(p, q):
+    return tuple(-((p[i] + q[i]) // -2) for i in (0, 1))
+
+
+def never_up_again(job, chain):
+    return CHAIN_LINES(job, chain)[:-1]
+
+
 def touches(a, b, v, w):
     return d.side(a, b, v) * d.side(a, b, w) <= 0
 
@@ -98,4 +121,14 @@ WRONG = {
     "left-whatever-is-inside": ("is_side_taken", lambda edges, centre: True),
     "centre-down": ("rounded", rounded_down),
     "halves-down": ("rounded", half_down),
+    "always-lifted": ("link", always_lifted),
+    "straight-at-the-surface": ("are_at_surface", lambda p, q: False),
+    "halved-once-less": ("MOST_HALVED", d.MOST_HALVED - 1),
+    "halved-up": ("halfway", halfway_up),
+    "neighbours-halved": ("are_neighbours", lambda p, q: False),
+    "never-closed": ("closed", lambda nodes: nodes),
+    "surface-left-out": ("chains_along", deep_chains),
+    "last-on-ties": ("nearest_chain", greatest_on_ties),
+    "from-where-it-began": ("place_behind", lambda chain: chain[0].at),
+    "never-up-again": ("chain_lines", never_up_again),
 }
