@@ -23,7 +23,7 @@ RADIUS, WAVE, WAVES = 30_000, 40, 12
 FIELD_ROWS, PITCH, OCTAGON, OCTAGON_SIDE, BORDER = 108, 600, 100, 41, 32_500
 FIELD_STRIDES = (9, 3, 1)
 
-# The name plate is 60 by 20 mm: two lines of letters, each in a cell.
+# The name plate is 60 by 20 mm: two lines of letters, each in a cell, and each line of an outline in so many pieces.
 LETTERS, CELL_WIDTH, CELL_HEIGHT, PIECES = 20, 300, 1_000, 62
 
 
@@ -71,11 +71,11 @@ def oval(width, height, pieces):
     return [(width * math.cos(angle), height * math.sin(angle)) for angle in angles]
 
 
-def stroke(line, half_width):
+def stroke(line, half_width, pieces):
     """The outline of a stroke along a line from its parameter 0 to 1."""
     sides = ([], [])
-    for i in range(PIECES + 1):
-        part, delta = i / PIECES, 1e-6
+    for i in range(pieces + 1):
+        part, delta = i / pieces, 1e-6
         (x, y), (u, v) = line(part), line(part + delta)
         length = math.hypot(u - x, v - y)
         across, up = -(v - y) / length * half_width, (u - x) / length * half_width
@@ -97,22 +97,22 @@ def open_oval(part):
     return 105 * math.cos(angle), 280 * math.sin(angle)
 
 
-def letter(number):
+def letter(number, pieces):
     """The outlines of a letter around the origin: an O, a C, an S or an I, more or less."""
     kinds = (
-        (oval(120, 400, PIECES), oval(50, 325, PIECES)),
-        (stroke(open_oval, 30),),
-        (stroke(snake, 40),),
-        (stroke(bow, 45),),
+        (oval(120, 400, pieces), oval(50, 325, pieces)),
+        (stroke(open_oval, 30, pieces),),
+        (stroke(snake, 40, pieces),),
+        (stroke(bow, 45, pieces),),
     )
     return kinds[number % len(kinds)]
 
 
-def name_plate():
+def name_plate(pieces=PIECES):
     loops = []
     for line, column in itertools.product(range(2), range(LETTERS)):
         x, y = column * CELL_WIDTH + CELL_WIDTH // 2, line * CELL_HEIGHT + CELL_HEIGHT // 2
-        for outline in letter(line + column):
+        for outline in letter(line + column, pieces):
             loops.append([(round(x + dx), round(y + dy)) for dx, dy in outline])
     return loops
 

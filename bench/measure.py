@@ -49,6 +49,9 @@ CHECK_BIT = "1/1"
 PLATE_STEP, PLATE_RMAX = "20", ("300", "8191")
 SQUARES_STEP, SQUARES_RMAX = "50", "16"
 
+# Name plates that are carved: how many pieces each line of an outline has, which gives 1,020 and 9,980 edges, and the bit.
+CARVE_PIECES, CARVE_BIT, CARVE_RMAX = (12, 124), "571/989", "300"
+
 # Beyond so many pairs of a question and an edge the obvious method isn't run.
 MOST_PAIRS = 1_500_000_000
 
@@ -78,6 +81,7 @@ class Case:
     words: tuple
     # How the last line begins.
     answer: str
+    # The words of the yardstick; none where it hasn't the command.
     plain: tuple
     moves: int = 0
 
@@ -135,7 +139,8 @@ class Bench:
         for _ in range(self.repeat):
             runs[0].append(self.run_program(case))
             runs[1].append(self.run("wc.out", (self.wc, *case.files)))
-            runs[2].append(self.run_plain("grid", case.plain))
+            if case.plain:
+                runs[2].append(self.run_plain("grid", case.plain))
         return runs
 
     def run_all(self, case):
@@ -144,7 +149,7 @@ class Bench:
 
     def run_double(self, case):
         """The seconds of the yardstick in double precision, and how many of its lines are other ones than the program's."""
-        if case.plain[0] != "contacts":
+        if case.plain[:1] != ("contacts",):
             return [], 0
         seconds = [self.run("double.out", (self.yardstick, "double", *case.plain)) for _ in range(self.repeat)]
         ours, others = ((self.folder / name).read_bytes().splitlines() for name in ("program.out", "double.out"))
@@ -237,18 +242,31 @@ def many_case(folder, moves):
     return check_case(folder, FIELD_SHORT, moves, field_file(folder, stride), make_inputs.field_edges(stride), moves)
 
 
-def contacts_case(drawing, loops, step, rmax):
+def count_contacts(loops, step):
+    """How many edges there are, and how many contacts."""
     edges = [(points[i - 1], points[i]) for points in loops for i in range(len(points))]
-    contacts = sum(math.ceil(math.dist(*edge) / int(step)) + 1 for edge in edges)
+    return len(edges), sum(math.ceil(math.dist(*edge) / int(step)) + 1 for edge in edges)
+
+
+def contacts_case(drawing, loops, step, rmax):
+    edges, contacts = count_contacts(loops, step)
     words = ("contacts", f"--drawing={drawing}", f"--step={step}", f"--rmax={rmax}")
     plain = ("contacts", drawing, step, rmax)
-    text, answer = f"{contacts:,} contacts, {len(edges):,} edges", f"{len(loops) - 1} {len(edges) - 1} "
-    return Case(text, contacts, contacts * len(edges), (drawing,), words, answer, plain)
+    text, answer = f"{contacts:,} contacts, {edges:,} edges", f"{len(loops) - 1} {edges - 1} "
+    return Case(text, contacts, contacts * edges, (drawing,), words, answer, plain)
 
 
 def plate_case(folder, rmax):
     plate = make_inputs.name_plate()
     return contacts_case(drawing_file(folder, "plate", lambda: plate), plate, PLATE_STEP, rmax)
+
+
+def carve_case(folder, pieces):
+    plate = make_inputs.name_plate(pieces)
+    drawing = drawing_file(folder, f"plate{pieces}", lambda: plate)
+    edges, contacts = count_contacts(plate, PLATE_STEP)
+    words = ("carve", f"--drawing={drawing}", f"--bit={CARVE_BIT}", f"--rmax={CARVE_RMAX}", f"--step={PLATE_STEP}")
+    return Case(f"{edges:,} edges, {contacts:,} contacts", contacts, 0, (drawing,), words, "M2", ())
 
 
 def squares_case(folder, rows):
@@ -275,6 +293,7 @@ def series(folder, count):
     for rmax in PLATE_RMAX:
         yield f"`contacts`, name plate, `--rmax={rmax}`", (plate_case(folder, rmax) for _ in range(1))
     yield "`contacts`, squares", (squares_case(folder, rows) for rows in SQUARE_ROWS[:count])
+    yield "`carve`, name plate", (carve_case(folder, pieces) for pieces in CARVE_PIECES[:count])
 
 
 def growth(before, size, seconds):
