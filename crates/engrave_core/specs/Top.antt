@@ -3,7 +3,7 @@ use Rattle.std.specs.Prelude.{ℕ, Option, List, codes}
 use Rattle.shop_port.specs.Counts.{Rose}
 use Rattle.shop_port.specs.Output.{Appended, AppendedPart}
 use Rattle.job_words.specs.declared.request.Request.{Request}
-use Rattle.engrave_core.specs.Due.{IsDue, IsGoodTextOf}
+use Rattle.engrave_core.specs.Due.{IsDue, IsGoodText}
 use Rattle.engrave_core.specs.Stored.{Files}
 use Rattle.engrave_core.specs.declared.outcome.Outcome.{Outcome}
 
@@ -29,5 +29,5 @@ pub record WritesPartOfReadFault (old new : Option (List ℕ)) (faults_before fa
 -- each contact
 pub record WritesGood (files : Files) (request : Option Request) (old new : Option (List ℕ)) : Type 0 where
   pub text : List ℕ
-  pub good : IsGoodTextOf files request text
+  pub good : IsGoodText files request text
   pub appended : Appended old new text
