@@ -517,14 +517,22 @@ LARGE = [
 # The largest inputs, likewise.
 FAR = (b"X-327.68Y-327.68Z327.67\n", 1)
 MOST_MOVES = 8_388_608
-# Small holes far apart in a plate. Round each corner of one the way is halved to the last, and takes more than a hundred nodes.
-HOLES = [WHOLE] + [
-    b"%d,%d %d,%d %d,%d %d,%d\n" % (x, y, x + 4, y, x + 4, y + 4, x, y + 4)
-    for x in range(-32_000, 32_000, 600)
-    for y in range(-32_000, 32_000, 600)
-]
+# The greatest plate with so many small holes, so far apart that each is as if alone for a bit of radius 60: round a triangle there are 106
+# nodes, round a square 121, and round the plate 13.
+def pierced(triangles, squares):
+    corners = [[(0, 0), (4, 0), (0, 4)]] * triangles + [[(0, 0), (4, 0), (4, 4), (0, 4)]] * squares
+    holes = [
+        b" ".join(b"%d,%d" % (hole % 80 * 130 - 32_000 + x, hole // 80 * 130 - 32_000 + y) for x, y in hole_corners) + b"\n"
+        for hole, hole_corners in enumerate(corners)
+    ]
+    return [(WHOLE + b"".join(holes), 1)]
+
+
+PIERCED = CARVE.replace("1/1", "1/10").replace("600", "60").replace("500", "32767")
 HUGE = [
-    (CARVE.replace("1/1", "1/200").replace("600", "160").replace("500", "32767"), [(b"".join(HOLES), 1)], [], 3, "input too many nodes"),
+    # 39,506 * 106 + 55 * 121 + 13 are 4,194,304 nodes, and 39,514 * 106 + 48 * 121 + 13 are one more.
+    (PIERCED, pierced(39_506, 55), [], 0, "M2"),
+    (PIERCED, pierced(39_514, 48), [], 3, "input too many nodes"),
     (MOVES, [], [(b" ", CODE_LIMIT)], 3, "input code line 1 long line"),
     (MOVES, [], [(b"\n", CODE_LIMIT)], 0, "moves 0"),
     (MOVES, [], [(b";" + b"x" * 1022 + b"\n", CODE_LIMIT // 1024)], 0, "moves 0"),

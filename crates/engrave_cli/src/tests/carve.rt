@@ -108,21 +108,28 @@ fn carving_is_refused_in_its_order(rt: HostRuntime) -> Result<(), Fail> {
     Ok(())
 }
 
-/// Three times the greatest square, whose sides have 8192 pieces. Where no depth fits, each of its nodes is a chain, the first twice.
-const THREE_GREATEST: &str = "-32768,-32768 32767,-32768 32767,32767 -32768,32767\n\
-    -32768,-32768 32767,-32768 32767,32767 -32768,32767\n\
-    -32768,-32768 32767,-32768 32767,32767 -32768,32767\n";
+/// Four squares of 8188 pieces a side, and so many small ones of one. Where no depth fits, each node of a loop is a chain, the first twice.
+fn squares(alloc: Global, small: u32) -> Result<String, Fail> {
+    let mut drawing = String::from_str(
+        alloc,
+        "-32768,-32768 -16,-32768 -16,-16 -32768,-16\n0,-32768 32752,-32768 32752,-16 0,-16\n\
+         -32768,0 -16,0 -16,32752 -32768,32752\n0,0 32752,0 32752,32752 0,32752\n",
+    )?;
+    for _ in 0..small {
+        drawing.push_str("-10,9 -6,9 -6,13 -10,13\n")?;
+    }
+    Ok(drawing)
+}
 
 #[test]
 fn there_may_be_so_many_chains_and_no_more(rt: HostRuntime) -> Result<(), Fail> {
-    let words = "carve --drawing=d --bit=2/1 --rmax=1 --step=8";
-    // And 8191 pieces a side: 3 * 32,769 + 32,765 are 131,072 chains.
-    let most = "-32768,-32768 32760,-32768 32760,32760 -32768,32760\n";
-    let drawing = format!(in rt.alloc(); "{THREE_GREATEST}{most}")?;
+    let words = "carve --drawing=d --bit=2/1 --rmax=1 --step=4";
+    // 4 * 32,753 + 12 * 5 are 131,072 chains.
+    let most = squares(rt.alloc(), 12)?;
     let (status, text) = run(
         rt.alloc(),
         words,
-        (drawing.as_str(), ""),
+        (most.as_str(), ""),
         65_536,
         (NEVER, NEVER),
     )?;
@@ -130,11 +137,11 @@ fn there_may_be_so_many_chains_and_no_more(rt: HostRuntime) -> Result<(), Fail> 
         (status, text.as_str().lines().count()),
         (0, 5 + 3 * 131_072 + 1)
     );
-    // And 8190 pieces a side, and one: 3 * 32,769 + 32,761 + 5 are one chain more.
-    let more = "-32768,-32768 32752,-32768 32752,32752 -32768,32752\n0,0 8,0 8,8 0,8\n";
-    let drawing = format!(in rt.alloc(); "{THREE_GREATEST}{more}")?;
+    // A loop of two points has three: 4 * 32,753 + 11 * 5 + 2 * 3 are one chain more.
+    let mut more = squares(rt.alloc(), 11)?;
+    more.push_str("-10,0 -6,0\n-10,0 -6,0\n")?;
     let line = "input too many chains\n";
-    expect(&rt, rt.alloc(), words, (drawing.as_str(), ""), (3, line))
+    expect(&rt, rt.alloc(), words, (more.as_str(), ""), (3, line))
 }
 
 #[test]
