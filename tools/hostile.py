@@ -97,9 +97,12 @@ def cut_cases():
 def scarce_cases():
     """Runs that have less and less memory: they answer, or end with the status that tells the want of it."""
     far = [rows.FAR, (b"Z9\n", 300_000)]
-    carved = ("d", rows.CARVE, 3, "input too many chains")
-    for name, words, status, text in (("d", rows.PROBE, 0, "depth 0"), carved, ("c", rows.MOVES, 0, "moves 300000")):
-        file = [(b"0,0 1,1\n", 65_536)] if name == "d" else far
+    specks = [(b"0,0 1,1\n", 65_536)]
+    for name, words, file, status, text in (
+        ("d", rows.PROBE, specks, 0, "depth 0"),
+        ("d", rows.SPREAD, [(rows.SPREAD_SQUARES, 2)], 3, "input too many chains"),
+        ("c", rows.MOVES, far, 0, "moves 300000"),
+    ):
         for mebibytes in rows.SPACES:
             case = case_of("scarce memory", words, {name: file}, status, text)
             yield case._replace(statuses=(status, 7), space=mebibytes * 1024)

@@ -43,6 +43,7 @@ MOVES = "moves --code=c"
 CHECK = "check --drawing=d --code=c --bit=1/1 --rmax=200"
 CONTACTS = "contacts --drawing=d --step=250 --rmax=600"
 CARVE = "carve --drawing=d --bit=1/1 --rmax=600 --step=500"
+SPREAD = "carve --drawing=d --bit=2/1 --rmax=1 --step=4"
 
 # Drawings for PROBE: the bytes, the status, the line.
 DRAWINGS = [
@@ -474,13 +475,10 @@ NEAR = [(b"-9999,-9999 9999,-9999 9999,9999 -9999,9999\n", 1), (b"0,0 1,1\n", 65
 # The largest square.
 WHOLE = b"-32768,-32768 32767,-32768 32767,32767 -32768,32767\n"
 
-
-# A square that the step 8 divides into so many pieces a side.
-def square_of(pieces):
-    end = 8 * pieces - 32768
-    return b"-32768,-32768 %d,-32768 %d,%d -32768,%d\n" % (end, end, end, end)
-
-
+# Four squares apart, which the step 4 divides into 8188 pieces a side.
+SPREAD_SQUARES = b"".join(
+    b"%d,%d %d,%d %d,%d %d,%d\n" % (x, y, x + 32_752, y, x + 32_752, y + 32_752, x, y + 32_752) for x in (-32_768, 0) for y in (-32_768, 0)
+)
 LARGE = [
     (PROBE, [(b"1", DRAWING_LIMIT)], [], 3, "input loops 0 syntax"),
     (PROBE, [(b"1", DRAWING_LIMIT + 1)], [], 3, "input too long drawing"),
@@ -502,9 +500,9 @@ LARGE = [
     (CONTACTS.replace("250", "8"), [(WHOLE, 31)], [], 0, "30 123 8192/8192 none 0 -32768,-32768"),
     (CONTACTS.replace("250", "8"), [(WHOLE, 33)], [], 3, "input too many contacts"),
     (CONTACTS.replace("250", "7"), [(SQUARE, 1), (WHOLE, 33)], [], 3, "input step too fine 4"),
-    # Where no depth fits, each node is a chain, and the first one twice: 3 * 32,769 + 32,765, and one more.
-    (CARVE.replace("1/1", "2/1").replace("600", "1").replace("500", "8"), [(WHOLE, 3), (square_of(8191), 1)], [], 0, "M2"),
-    (CARVE.replace("1/1", "2/1").replace("600", "1").replace("500", "8"), [(WHOLE, 3), (square_of(8190), 1), (b"0,0 8,0 8,8 0,8\n", 1)], [], 3, "input too many chains"),
+    # Where no depth fits, each node is a chain, and the first one of a loop twice: 4 * 32,753 + 12 * 5, and one more.
+    (SPREAD, [(SPREAD_SQUARES, 1), (b"-10,9 -6,9 -6,13 -10,13\n", 12)], [], 0, "M2"),
+    (SPREAD, [(SPREAD_SQUARES, 1), (b"-10,9 -6,9 -6,13 -10,13\n", 11), (b"-10,0 -6,0\n", 2)], [], 3, "input too many chains"),
     (CARVE.replace("500", "8"), [(WHOLE, 33)], [], 3, "input too many contacts"),
     (CARVE.replace("500", "7"), [(SQUARE, 1), (WHOLE, 33)], [], 3, "input step too fine 4"),
     (MOVES, [], [(b"N1\n", 1_000_000), (b"Q", 1)], 3, "input code line 1000001 word"),
