@@ -28,3 +28,7 @@ pub mod Ways
 pub mod Clearances
 pub mod Products
 pub mod Deepest
+-- which points a move removes, by three products
+pub mod Nappe
+pub mod Dips
+pub mod Cuts

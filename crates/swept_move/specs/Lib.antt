@@ -1,6 +1,7 @@
 -- The definitions of the crate.
 pub mod Beside
 pub mod Clear
+pub mod Dip
 pub mod Law
 pub mod Motion
 pub mod Part

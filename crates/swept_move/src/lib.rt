@@ -1,7 +1,8 @@
 //! Straight moves of the bit against the edges of a drawing.
 //!
 //! Its promise is the clause of `clear_of`, the test of a move against an edge, and `law::exact_law`: a move that goes below the
-//! surface passes it just where no moment of it removes a point of the edge.
+//! surface passes it just where no moment of it removes a point of the edge. And the clause of `point_removed`: whether some moment
+//! of a move, at any depth, removes a grid point.
 #![tactic(auto)]
 
 mod clear;
@@ -13,9 +14,11 @@ mod distance;
 pub mod law;
 mod moments;
 mod reach;
+mod removed;
 mod sides;
 mod way;
 
 pub use clear::clear_of;
 pub use disc::is_edge_clear;
 pub use reach::reach_of;
+pub use removed::point_removed;
