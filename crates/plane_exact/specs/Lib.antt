@@ -7,3 +7,4 @@ pub mod Moves
 pub mod Nodes
 pub mod Plane
 pub mod Product
+pub mod Uncut

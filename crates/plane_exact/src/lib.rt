@@ -13,6 +13,7 @@ mod node;
 mod point;
 mod product;
 mod segment;
+mod uncut;
 mod way;
 
 pub use bit::{Bit, MOST_RADIUS, MOST_SLOPE};
@@ -23,4 +24,5 @@ pub use node::{Chain, MOST_CHAINS, MOST_NODES, Node};
 pub use point::{Point, Seg};
 pub use product::{Offset, cross, dot, offset_from};
 pub use segment::passes_through;
+pub use uncut::{Run, Uncut};
 pub use way::Way;
