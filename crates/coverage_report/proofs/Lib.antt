@@ -1,0 +1,13 @@
+-- The lemmas of the crate.
+pub mod Alls
+pub mod JoinedRuns
+pub mod LatticePoints
+pub mod Lattices
+pub mod Places
+pub mod Reports
+pub mod RowPoints
+pub mod RunsFrom
+pub mod SetCounts
+pub mod Sparing
+pub mod TakenRows
+pub mod Ticks

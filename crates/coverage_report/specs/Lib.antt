@@ -1,0 +1,8 @@
+-- The definitions of the crate.
+pub mod Lattices
+pub mod Points
+pub mod Report
+pub mod RowRuns
+pub mod Rows
+pub mod Runs
+pub mod Taken

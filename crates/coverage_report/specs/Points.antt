@@ -1,0 +1,49 @@
+-- The points of a report: which there are, which are inside the drawing, which of these no move removes, and how many.
+use Rattle.std.specs.Prelude.{◌≡◌, ◌⊎◌, ℕ, List, length, All, AllPairs, Any, Contains, ℤ, pos, ◌*ℤ◌, ◌<ℤ◌}
+use Rattle.plane_exact.specs.Cone.{Cone}
+use Rattle.plane_exact.specs.Plane.{GridPoint, rational}
+use Rattle.plane_exact.specs.declared.moves.LineMove.{LineMove}
+use Rattle.engrave_model.specs.Drawing.{edges_of}
+use Rattle.engrave_model.specs.Inside.{IsInside}
+use Rattle.engrave_model.specs.Removal.{Removes}
+use Rattle.evenodd_region.specs.Bounds.{IsBoxOf, IsInBox, points_of}
+
+-- z is a multiple of the pitch
+pub record IsMultiple (pitch : ℕ) (z : ℤ) : Type 0 where
+  pub times : ℤ
+  pub is : z ≡ times *ℤ pos pitch
+
+-- p is in the drawing's bounding box, its sides among it, and both its coordinates are multiples of the pitch
+pub record IsReportPoint (loops : List (List GridPoint)) (pitch : ℕ) (p : GridPoint) : Type 0 where
+  pub across : IsMultiple pitch p.x
+  pub up : IsMultiple pitch p.y
+  pub low : GridPoint
+  pub high : GridPoint
+  pub box : IsBoxOf (points_of loops) low high
+  pub within : IsInBox low high p
+
+-- a point of the report that the drawing holds
+pub record IsDrawingPoint (loops : List (List GridPoint)) (pitch : ℕ) (p : GridPoint) : Type 0 where
+  pub reported : IsReportPoint loops pitch p
+  pub inside : IsInside (edges_of loops) (rational p)
+
+-- one of these that no moment of any move removes
+pub record IsUncutPoint (loops : List (List GridPoint)) (cone : Cone) (moves : List LineMove) (pitch : ℕ) (p : GridPoint) : Type 0 where
+  pub drawn : IsDrawingPoint loops pitch p
+  pub spared : ¬ Any (λ move. Removes cone move.mv (rational p)) moves
+
+-- the order of a report: rows upwards, and each row to the right
+abbrev pub IsBefore : GridPoint → GridPoint → Type 0
+IsBefore p q = (p.y <ℤ q.y) ⊎ ((p.y ≡ q.y) × (p.x <ℤ q.x))
+
+-- the points are all those of which this is so, each once, in the order of a report
+pub record AreAll (IsSo : GridPoint → Type 0) (points : List GridPoint) : Type 0 where
+  pub each : All IsSo points
+  pub complete : (p : GridPoint) → IsSo p → Contains points p
+  pub ordered : AllPairs IsBefore points
+
+-- of so many points this is so
+pub record IsCount (IsSo : GridPoint → Type 0) (count : ℕ) : Type 0 where
+  pub points : List GridPoint
+  pub all : AreAll IsSo points
+  pub counted : count ≡ length points

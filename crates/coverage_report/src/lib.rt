@@ -1,0 +1,18 @@
+//! The report on what a G-code program leaves uncut: which grid points inside the drawing no moment of any move removes.
+//!
+//! Its promise is the clause of `uncut`: the maximal runs of exactly these points, in order, and how many there are; or that
+//! the report has more points than it may have.
+#![tactic(auto)]
+
+mod bits;
+mod cover;
+mod fault;
+mod lattice;
+mod marks;
+mod row;
+mod runs;
+#[cfg(test)]
+mod tests;
+
+pub use cover::{MOST_PITCH, MOST_POINTS, uncut};
+pub use fault::CoverFault;
