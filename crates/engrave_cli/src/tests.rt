@@ -5,6 +5,7 @@ ghost use Rattle.std.specs.Prelude.{◌≤◌};
 mod carve;
 mod check;
 mod contacts;
+mod cover;
 mod devices;
 mod large;
 mod listing;
@@ -86,6 +87,9 @@ fn expect(
 
 /// A plate in the shape of an L.
 const ANGLE: &str = "0,0 400,0 400,200 200,200 200,400 0,400";
+
+/// The square of the whole grid.
+const GRID: &str = "-32768,-32768 32767,-32768 32767,32767 -32768,32767";
 
 /// Down one arm of the L.
 const DOWN: &str = "G21\nG0 Z2\nG0 X1 Y3\nG1 Z-1\nG1 X1 Y1\nM2\n";

@@ -1,63 +1,81 @@
--- What `carve` writes is good, and its refusals are the plan's.
-use Rattle.std.specs.Prelude.{◌≡◌, ◌≤◌, ◌++◌, ℕ, List, Ok}
+-- What `carve` writes is good, and its refusals are those of the plan and of the report.
+use Rattle.std.specs.Prelude.{◌≡◌, ◌≤◌, ℕ, List, Ok}
 use Rattle.std.proofs.Common.{ap, refl, subst, sym, ◌∙◌, inl, inr}
 use Rattle.carve_plan.proofs.Planned.{plan_carves, plan_within}
-use Rattle.carve_plan.specs.Fault.{IsPlanFault}
 use Rattle.carve_plan.specs.Plan.{IsPlan}
-use Rattle.carve_plan.specs.declared.fault.PlanFault.{PlanFault}
-use Rattle.carve_plan.specs.declared.fault.PlanFault.TheVariants as plan
-use Rattle.tangent_disc.specs.declared.contact.ContactFault.TheVariants as contact
 use Rattle.gcode_text.specs.Moves.{moves_of}
-use Rattle.gcode_text.specs.Path.{IsReadBack, chain_moves, end_text, path_text}
+use Rattle.coverage_report.specs.Report.{IsCoverFault, IsReportOn}
+use Rattle.coverage_report.specs.declared.fault.CoverFault.{CoverFault}
+use Rattle.coverage_report.specs.declared.fault.CoverFault.TheVariants.{TooManyPoints, Memory}
+use Rattle.gcode_text.specs.Path.{IsReadBack, chain_moves, path_text, program_text}
 use Rattle.gcode_text.specs.declared.job.Job.{Job}
 use Rattle.job_words.specs.declared.request.DrawingWords.{DrawingWords}
 use Rattle.plane_exact.specs.Nodes.{AreWithinLimits, GridNode}
 use Rattle.plane_exact.specs.Plane.{GridPoint}
+use Rattle.plane_exact.specs.Uncut.{UncutPoints}
+use Rattle.plane_exact.specs.declared.moves.LineMove.{LineMove}
 use Rattle.engrave_core.specs.Commands.Carve.{IsCarvedOrRefused, IsDueOfCarve, StoresWellCarved}
 use Rattle.engrave_core.specs.Line.{line_of}
 use Rattle.engrave_core.specs.Outcome.{IfAnswered, outcome_of}
-use Rattle.engrave_core.specs.Refusals.{plan_refusal}
+use Rattle.engrave_core.specs.Refusals.{cover_refusal, plan_refusal}
 use Rattle.engrave_core.specs.Stored.{Files, stored_drawing}
 use Rattle.engrave_core.specs.declared.outcome.Outcome.TheVariants.{Done}
 use Rattle.engrave_core.proofs.Done.{found, refusal_is_not_done}
 
--- a fault of the plan is answered by its refusal
-pub refused_plan : (job : Job) (loops : List (List GridPoint)) (fault : PlanFault) → IsPlanFault loops job.bit job.limit job.step fault
-    → IfAnswered (outcome_of (plan_refusal fault)) (IsCarvedOrRefused job loops (outcome_of (plan_refusal fault)) (line_of (outcome_of (plan_refusal fault))))
-refused_plan job loops (plan.Contact (contact.StepTooFine edge)) is = inr (record { fault = plan.Contact (contact.StepTooFine edge); told = λ same. cc; is = is; refuses = record { refused = refl; line = refl } })
-refused_plan job loops (plan.Contact contact.TooMany) is = inr (record { fault = plan.Contact contact.TooMany; told = λ same. cc; is = is; refuses = record { refused = refl; line = refl } })
-refused_plan job loops (plan.Contact contact.Memory) is = tt
-refused_plan job loops plan.TooManyNodes is = inr (record { fault = plan.TooManyNodes; told = λ same. cc; is = is; refuses = record { refused = refl; line = refl } })
-refused_plan job loops plan.TooManyChains is = inr (record { fault = plan.TooManyChains; told = λ same. cc; is = is; refuses = record { refused = refl; line = refl } })
-refused_plan job loops plan.Memory is = tt
+-- a fault of the report is answered by its refusal, where there is a plan
+pub unreported : (job : Job) (pitch : ℕ) (loops seen : List (List GridPoint)) (plan : List (List GridNode)) (fault : CoverFault) → seen ≡ loops
+    → IsPlan seen job.bit job.limit job.step plan → IsCoverFault seen pitch fault
+    → IfAnswered (outcome_of (cover_refusal fault)) (IsCarvedOrRefused job pitch loops (outcome_of (cover_refusal fault)) (line_of (outcome_of (cover_refusal fault))))
+unreported job pitch loops seen plan TooManyPoints same is many =
+    inr (inr (record {
+      plan = plan;
+      is = subst (λ l. IsPlan l job.bit job.limit job.step plan) same is;
+      many = subst (λ l. IsCoverFault l pitch TooManyPoints) same many;
+      refuses = record { refused = refl; line = refl };
+    }))
+unreported job pitch loops seen plan Memory same is many = tt
 
-carved_of : (files : Files) (shape : DrawingWords) (job : Job) (text : List ℕ) (loops : List (List GridPoint)) → stored_drawing files shape.drawing ≡ Ok loops
-    → IsCarvedOrRefused job loops Done text → StoresWellCarved files shape job text
-carved_of files shape job text loops is (inl carved) = record { loops = loops; drawing_is = is; good = carved.good }
-carved_of files shape job text loops is (inr refused) = absurd (refusal_is_not_done (plan_refusal refused.fault) refused.refuses.refused)
+carved_of : (files : Files) (shape : DrawingWords) (job : Job) (pitch : ℕ) (text : List ℕ) (loops : List (List GridPoint)) → stored_drawing files shape.drawing ≡ Ok loops
+    → IsCarvedOrRefused job pitch loops Done text → StoresWellCarved files shape job pitch text
+carved_of files shape job pitch text loops is (inl carved) = record { loops = loops; drawing_is = is; good = carved.good }
+carved_of files shape job pitch text loops is (inr (inl refused)) = absurd (refusal_is_not_done (plan_refusal refused.fault) refused.refuses.refused)
+carved_of files shape job pitch text loops is (inr (inr refused)) = absurd (refusal_is_not_done (cover_refusal TooManyPoints) refused.refuses.refused)
 
 -- what is due with Done is a good program
-pub carved_is_good : (files : Files) (shape : DrawingWords) (job : Job) (text : List ℕ) → IsDueOfCarve files shape job Done text → StoresWellCarved files shape job text
-carved_is_good files shape job text due =
+pub carved_is_good : (files : Files) (shape : DrawingWords) (job : Job) (pitch : ℕ) (text : List ℕ) → IsDueOfCarve files shape job pitch Done text → StoresWellCarved files shape job pitch text
+carved_is_good files shape job pitch text due =
     let drawing = found _ (stored_drawing files shape.drawing) text due in
-    carved_of files shape job text drawing.value drawing.is drawing.gives
+    carved_of files shape job pitch text drawing.value drawing.is drawing.gives
 
--- the program of a plan is what is due, and a good one
-pub carved : (job : Job) (loops seen : List (List GridPoint)) (plan given : List (List GridNode)) (code text : List ℕ) → 1 ≤ job.bit.sn → seen ≡ loops → given ≡ plan
-    → IsPlan seen job.bit job.limit job.step plan → code ≡ path_text job given → (AreWithinLimits given → IsReadBack job given) → text ≡ code ++ end_text
-    → IsCarvedOrRefused job loops Done text
-carved job loops seen plan given code text some seen_is given_is is code_is read text_is =
+-- a plan, seen as chains, is within the limits of a path
+pub plan_is_within : (job : Job) (seen : List (List GridPoint)) (plan given : List (List GridNode)) → given ≡ plan
+    → IsPlan seen job.bit job.limit job.step plan → AreWithinLimits given
+plan_is_within job seen plan given given_is is = subst AreWithinLimits (sym given_is) (plan_within seen job.bit job.limit job.step plan is)
+
+-- the program of a plan, with the report on its moves, is what is due, and a good one
+pub carved : (job : Job) (pitch : ℕ) (loops seen : List (List GridPoint)) (plan given : List (List GridNode)) (moves : List LineMove) (uncut : UncutPoints) (text : List ℕ)
+    → 1 ≤ job.bit.sn → seen ≡ loops → given ≡ plan → IsPlan seen job.bit job.limit job.step plan → moves ≡ chain_moves job plan
+    → IsReportOn seen job.bit moves pitch uncut → text ≡ program_text job given uncut → (AreWithinLimits given → IsReadBack job given uncut)
+    → IsCarvedOrRefused job pitch loops Done text
+carved job pitch loops seen plan given moves uncut text some seen_is given_is is moves_are report text_is read =
     let planned = subst (λ l. IsPlan l job.bit job.limit job.step plan) seen_is is in
-    let program : text ≡ path_text job plan ++ end_text = text_is ∙ ap (λ c. c ++ end_text) (code_is ∙ ap (path_text job) given_is) in
-    let within = subst AreWithinLimits (sym given_is) (plan_within loops job.bit job.limit job.step plan planned) in
+    let program : text ≡ program_text job plan uncut = text_is ∙ ap (λ chains. program_text job chains uncut) given_is in
+    let on_plan = subst (λ l. IsReportOn l job.bit (chain_moves job plan) pitch uncut) seen_is
+        (subst (λ m. IsReportOn seen job.bit m pitch uncut) moves_are report) in
+    let within = plan_is_within job seen plan given given_is is in
     inl (record {
       plan = plan;
       is = planned;
+      uncut = uncut;
+      report = on_plan;
       done = refl;
       program = program;
       good = record {
         moves = chain_moves job plan;
-        read = ap (moves_of job.units) program ∙ subst (IsReadBack job) given_is (read within);
+        read = ap (moves_of job.units) program ∙ subst (λ chains. IsReadBack job chains uncut) given_is (read within);
         carves = plan_carves loops job.bit job.limit job.step job plan some planned;
+        uncut = uncut;
+        report = on_plan;
+        printed = record { front = path_text job plan; is = program };
       };
     })

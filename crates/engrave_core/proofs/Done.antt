@@ -1,6 +1,7 @@
 -- Where Done is due, or a verdict, no refusal of a reading is: each value that was needed was there.
-use Rattle.std.specs.Prelude.{◌≡◌, ◌≢◌, ℕ, List, Result, Ok, Err}
-use Rattle.std.proofs.Common.{refl}
+use Rattle.std.specs.Prelude.{◌≡◌, ◌≢◌, ℕ, List, Result, Ok, Err, Vec}
+use Rattle.std.specs.Result.{IsErr, IsErrAnd}
+use Rattle.std.proofs.Common.{refl, subst, sym}
 use Rattle.grid_num.specs.Judging.{and_then}
 use Rattle.grid_num.specs.declared.units.Units.{Units}
 use Rattle.gouge_checker.specs.declared.verdict.Verdict.{Verdict}
@@ -11,8 +12,9 @@ use Rattle.loops_text.specs.declared.reader.TheConstants.{MOST_DRAWING_BYTES}
 use Rattle.shop_port.specs.Loading.{file_within}
 use Rattle.shop_port.specs.declared.loading.LoadFault.{LoadFault}
 use Rattle.shop_port.specs.declared.loading.LoadFault.TheVariants as load
-use Rattle.engrave_core.specs.Given.{IsGivenBy}
-use Rattle.engrave_core.specs.Outcome.{outcome_of}
+use Rattle.engrave_core.specs.Given.{IsGivenBy, IsReported}
+use Rattle.engrave_core.specs.Line.{line_of}
+use Rattle.engrave_core.specs.Outcome.{IfAnswered, outcome_of}
 use Rattle.engrave_core.specs.Refusals.{file_refusal}
 use Rattle.engrave_core.specs.Stored.{Files, bytes_of, code_of, drawing_of, or_refused, stored_code, stored_drawing}
 use Rattle.engrave_core.specs.declared.outcome.InputFault.TheVariants.{Loops, Code as CodeOf}
@@ -94,3 +96,9 @@ code_gives_none files units name =
     then_gives_none (bytes_of Code MOST_CODE_BYTES (files name)) (code_of units)
     (or_refused_gives_none (file_refusal Code) (file_gives_none Code) (file_within MOST_CODE_BYTES (files name)))
     (λ text. or_refused_gives_none (λ fault. Input (CodeOf fault)) (λ fault verdict is. cc) (moves_of units text))
+
+-- a result that is a refusal is reported as due, where the refusal is
+pub refused_is_reported : {A : Type 0} (Due : Outcome → List ℕ → Type 0) (r : Result (Vec ℕ A) Refusal) (refusal : Refusal) → IsErr r → IsErrAnd r (λ given. given ≡ refusal)
+    → IfAnswered (outcome_of refusal) (Due (outcome_of refusal) (line_of (outcome_of refusal))) → IsReported Due r
+refused_is_reported Due (Ok text) refusal fails is due = cc
+refused_is_reported Due (Err given) refusal fails is due = subst (λ g. IfAnswered (outcome_of g) (Due (outcome_of g) (line_of (outcome_of g)))) (sym is) due

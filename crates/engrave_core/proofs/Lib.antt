@@ -2,6 +2,7 @@
 pub mod CarvedCode
 pub mod CheckedCode
 pub mod ContactLines
+pub mod CoveredCode
 pub mod Done
 pub mod Safety
 pub mod Texts

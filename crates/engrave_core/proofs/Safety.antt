@@ -1,4 +1,4 @@
--- What Done says of a checked program, and of a carved one; and that what the outcome of a check says is true.
+-- What Done says of a checked program, of a carved one and of a covered one; and that what the outcome of a check says is true.
 use Rattle.std.specs.Prelude.{◌≡◌, ℕ, Option, List}
 use Rattle.std.proofs.Common.{sym, subst, ◌∙◌, ◌⊎◌, inl, inr}
 use Rattle.job_words.specs.declared.request.DrawingWords.{DrawingWords}
@@ -7,15 +7,16 @@ use Rattle.plane_exact.specs.Cone.{Cone}
 use Rattle.shop_port.specs.Output.{Appended}
 use Rattle.engrave_core.specs.Commands.Carve.{job_of}
 use Rattle.engrave_core.specs.Commands.Check.{IsDueOfCheck, IsTrueOfCheck}
-use Rattle.engrave_core.specs.Due.{IsDueOf, IsGoodText, IsSafeRun, IsTrueRun}
+use Rattle.engrave_core.specs.Due.{IsDueOf, IsGoodText, IsSafeRun, IsTrueReport, IsTrueRun}
 use Rattle.engrave_core.specs.Given.{cone_of}
 use Rattle.engrave_core.specs.Outcome.{IfAnswered}
 use Rattle.engrave_core.specs.Stored.{Files}
-use Rattle.engrave_core.specs.Top.{WritesGood}
+use Rattle.engrave_core.specs.Top.{Writes}
 use Rattle.engrave_core.specs.declared.outcome.Outcome.{Outcome}
 use Rattle.engrave_core.specs.declared.outcome.Outcome.TheVariants.{Absent, Done, Input, Memory, NotClear, ReadFault, Usage, WriteFault}
 use Rattle.engrave_core.proofs.CarvedCode.{carved_is_good}
 use Rattle.engrave_core.proofs.CheckedCode.{checked_is_safe, checked_is_true}
+use Rattle.engrave_core.proofs.CoveredCode.{covered_is_told}
 
 -- an answer to a check says what is true of the stored program, and one that answers nothing says nothing
 answered_is_true : (files : Files) (shape : DrawingWords) (code : List ℕ) (bit : Cone) (outcome : Outcome) (text : List ℕ)
@@ -43,15 +44,21 @@ module _ (files : Files) (asked : Option Request) (text : List ℕ) (outcome res
       checked_is_safe files shape code (cone_of bit rmax) text (subst (λ a. IsDueOf files a Done text) is (due_done same due done))
   written_is_safe (inr cut) due done shape code bit rmax is = absurd (no_fault (sym done ∙ cut))
 
-  good : IsDueOf files asked Done text → IsGoodText files asked text
-  good due shape bit rmax step limit safe feed is =
-      carved_is_good files shape (job_of shape.units (cone_of bit rmax) step limit safe feed) text (subst (λ a. IsDueOf files a Done text) is due)
+  -- a text that is due with Done is good, where it is a program, and true, where it is a report
+  pub good_text : IsDueOf files asked Done text → IsGoodText files asked text
+  good_text due shape bit rmax step limit safe feed pitch is =
+      carved_is_good files shape (job_of shape.units (cone_of bit rmax) step limit safe feed) pitch text (subst (λ a. IsDueOf files a Done text) is due)
 
-  pub written_is_good : (old new : Option (List ℕ)) → (result ≡ outcome) ⊎ (result ≡ WriteFault) → IfAnswered outcome (IsDueOf files asked outcome text)
-      → (result ≡ outcome → Appended old new text) → result ≡ Done → WritesGood files asked old new
-  written_is_good old new (inl same) due appended done =
-      record { text = text; good = good (due_done same due done); appended = appended same }
-  written_is_good old new (inr cut) due appended done = absurd (no_fault (sym done ∙ cut))
+  pub true_report : IsDueOf files asked Done text → IsTrueReport files asked text
+  true_report due shape code bit rmax pitch is =
+      covered_is_told files shape code (cone_of bit rmax) pitch text (subst (λ a. IsDueOf files a Done text) is due)
+
+  pub written_is_so : (IsSo : List ℕ → Type 0) (old new : Option (List ℕ)) → (IsDueOf files asked Done text → IsSo text)
+      → (result ≡ outcome) ⊎ (result ≡ WriteFault) → IfAnswered outcome (IsDueOf files asked outcome text)
+      → (result ≡ outcome → Appended old new text) → result ≡ Done → Writes IsSo old new
+  written_is_so IsSo old new so (inl same) due appended done =
+      record { text = text; so = so (due_done same due done); appended = appended same }
+  written_is_so IsSo old new so (inr cut) due appended done = absurd (no_fault (sym done ∙ cut))
 
   pub written_is_true : (result ≡ outcome) ⊎ (result ≡ WriteFault) → IfAnswered outcome (IsDueOf files asked outcome text) → IsTrueRun files asked result
   written_is_true (inl same) due shape code bit rmax is =

@@ -5,6 +5,7 @@ use Rattle.job_words.specs.declared.request.Request.TheVariants as request
 use Rattle.engrave_core.specs.Commands.Carve.{IsDueOfCarve, IsRefusalOfCarve, job_of}
 use Rattle.engrave_core.specs.Commands.Check.{IsDueOfCheck, IsRefusalOfCheck}
 use Rattle.engrave_core.specs.Commands.Contacts.{IsDueOfContacts, IsRefusalOfTouching}
+use Rattle.engrave_core.specs.Commands.Cover.{IsDueOfCover, IsRefusalOfCover}
 use Rattle.engrave_core.specs.Commands.Moves.{IsDueOfMoves, IsRefusalOfMoves}
 use Rattle.engrave_core.specs.Commands.Probe.{IsDueOfProbe, IsRefusalOfProbe}
 use Rattle.engrave_core.specs.Given.{cone_of}
@@ -13,6 +14,7 @@ use Rattle.engrave_core.specs.declared.outcome.Outcome.{Outcome}
 pub mod Carve
 pub mod Check
 pub mod Contacts
+pub mod Cover
 pub mod Moves
 pub mod Probe
 
@@ -22,7 +24,8 @@ IsDueOfRequest files (request.Probe shape at bit rmax limit) = IsDueOfProbe file
 IsDueOfRequest files (request.Moves code units) = IsDueOfMoves files code units
 IsDueOfRequest files (request.Check shape code bit rmax) = IsDueOfCheck files shape code (cone_of bit rmax)
 IsDueOfRequest files (request.Contacts shape step rmax) = IsDueOfContacts files shape step rmax
-IsDueOfRequest files (request.Carve shape bit rmax step limit safe feed) = IsDueOfCarve files shape (job_of shape.units (cone_of bit rmax) step limit safe feed)
+IsDueOfRequest files (request.Carve shape bit rmax step limit safe feed pitch) = IsDueOfCarve files shape (job_of shape.units (cone_of bit rmax) step limit safe feed) pitch
+IsDueOfRequest files (request.Cover shape code bit rmax pitch) = IsDueOfCover files shape code (cone_of bit rmax) pitch
 
 -- the refusals that there are, whatever the files have
 abbrev pub IsRefusalOfRequest : Request → Outcome → Type 0
@@ -30,4 +33,5 @@ IsRefusalOfRequest (request.Probe shape at bit rmax limit) = IsRefusalOfProbe
 IsRefusalOfRequest (request.Moves code units) = IsRefusalOfMoves
 IsRefusalOfRequest (request.Check shape code bit rmax) = IsRefusalOfCheck
 IsRefusalOfRequest (request.Contacts shape step rmax) = IsRefusalOfTouching
-IsRefusalOfRequest (request.Carve shape bit rmax step limit safe feed) = IsRefusalOfCarve
+IsRefusalOfRequest (request.Carve shape bit rmax step limit safe feed pitch) = IsRefusalOfCarve
+IsRefusalOfRequest (request.Cover shape code bit rmax pitch) = IsRefusalOfCover

@@ -7,6 +7,7 @@ use Rattle.job_words.specs.declared.request.Request.TheVariants as request
 use Rattle.engrave_core.specs.Commands.{IsDueOfRequest, IsRefusalOfRequest}
 use Rattle.engrave_core.specs.Commands.Carve.{StoresWellCarved, job_of}
 use Rattle.engrave_core.specs.Commands.Check.{IsTrueOfCheck, StoresSafeCode}
+use Rattle.engrave_core.specs.Commands.Cover.{StoresCovered}
 use Rattle.engrave_core.specs.Given.{Refuses, cone_of}
 use Rattle.engrave_core.specs.Stored.{Files}
 use Rattle.engrave_core.specs.declared.outcome.Outcome.{Outcome}
@@ -54,5 +55,12 @@ IsTrueRun files asked outcome =
 -- what is known of the text that is written with Done where the request is to carve
 abbrev pub IsGoodText : Files → Option Request → List ℕ → Type 0
 IsGoodText files asked text =
-    (shape : DrawingWords) (bit : ℕ × ℕ) (rmax step limit safe feed : ℕ)
-    → asked ≡ Some (request.Carve shape bit rmax step limit safe feed) → StoresWellCarved files shape (job_of shape.units (cone_of bit rmax) step limit safe feed) text
+    (shape : DrawingWords) (bit : ℕ × ℕ) (rmax step limit safe feed pitch : ℕ)
+    → asked ≡ Some (request.Carve shape bit rmax step limit safe feed pitch)
+    → StoresWellCarved files shape (job_of shape.units (cone_of bit rmax) step limit safe feed) pitch text
+
+-- what is known of the text that is written with Done where the request is to cover: it is the report on the stored program
+abbrev pub IsTrueReport : Files → Option Request → List ℕ → Type 0
+IsTrueReport files asked text =
+    (shape : DrawingWords) (code : List ℕ) (bit : ℕ × ℕ) (rmax pitch : ℕ)
+    → asked ≡ Some (request.Cover shape code bit rmax pitch) → StoresCovered files shape code (cone_of bit rmax) pitch text

@@ -3,7 +3,7 @@ use Rattle.std.specs.Prelude.{ℕ, List, [], ◌++◌, codes, decimal}
 use Rattle.engrave_core.specs.declared.outcome.InputFault.{InputFault}
 use Rattle.engrave_core.specs.declared.outcome.InputFault.TheVariants.{TooLong, Loops, Code, StepTooFine, TooMany}
 use Rattle.engrave_core.specs.declared.outcome.Kind.{Kind}
-use Rattle.engrave_core.specs.declared.outcome.Kind.TheVariants.{Contacts, Nodes, Chains}
+use Rattle.engrave_core.specs.declared.outcome.Kind.TheVariants.{Contacts, Nodes, Chains, Points}
 use Rattle.engrave_core.specs.declared.outcome.Outcome.{Outcome}
 use Rattle.engrave_core.specs.declared.outcome.Outcome.TheVariants.{Done, NotClear, Usage, Input, Absent, ReadFault, WriteFault, Memory}
 use Rattle.engrave_core.specs.declared.outcome.Which.{Which}
@@ -33,6 +33,7 @@ abbrev pub kind_words : Kind → List ℕ
 kind_words Contacts = codes "contacts"
 kind_words Nodes = codes "nodes"
 kind_words Chains = codes "chains"
+kind_words Points = codes "points"
 
 -- the line of a fault of the input
 abbrev pub input_line : InputFault → List ℕ

@@ -13,10 +13,12 @@ use Rattle.engrave_core.specs.declared.refusal.Refusal.{Refusal}
 use Rattle.engrave_core.specs.declared.refusal.Refusal.TheVariants as refusal
 use Rattle.carve_plan.specs.declared.fault.PlanFault.{PlanFault}
 use Rattle.carve_plan.specs.declared.fault.PlanFault.TheVariants as plan
+use Rattle.coverage_report.specs.declared.fault.CoverFault.{CoverFault}
+use Rattle.coverage_report.specs.declared.fault.CoverFault.TheVariants as cover
 use Rattle.tangent_disc.specs.declared.contact.ContactFault.{ContactFault}
 use Rattle.tangent_disc.specs.declared.contact.ContactFault.TheVariants as contact
 use Rattle.engrave_core.specs.declared.outcome.InputFault.TheVariants.{TooLong, Loops, Code as CodeOf, StepTooFine, TooMany}
-use Rattle.engrave_core.specs.declared.outcome.Kind.TheVariants.{Contacts, Nodes, Chains}
+use Rattle.engrave_core.specs.declared.outcome.Kind.TheVariants.{Contacts, Nodes, Chains, Points}
 use Rattle.engrave_core.specs.declared.outcome.Outcome.{Outcome}
 use Rattle.engrave_core.specs.declared.outcome.Outcome.TheVariants.{Input, Absent, ReadFault, Memory}
 use Rattle.engrave_core.specs.declared.outcome.Which.{Which}
@@ -62,6 +64,11 @@ plan_refusal plan.TooManyNodes = refusal.Input (TooMany Nodes)
 plan_refusal plan.TooManyChains = refusal.Input (TooMany Chains)
 plan_refusal plan.Memory = refusal.Memory
 
+-- the refusal of a report on uncut points
+abbrev pub cover_refusal : CoverFault → Refusal
+cover_refusal cover.TooManyPoints = refusal.Input (TooMany Points)
+cover_refusal cover.Memory = refusal.Memory
+
 -- ---- which refusals there are
 
 -- the refusals of a file
@@ -102,6 +109,14 @@ IsRefusalOfContacts outcome = ⊥
 -- the refusals of a plan
 abbrev pub IsRefusalOfPlan : Outcome → Type 0
 IsRefusalOfPlan (Input (StepTooFine edge)) = Unit {0}
-IsRefusalOfPlan (Input (TooMany kind)) = Unit {0}
+IsRefusalOfPlan (Input (TooMany Contacts)) = Unit {0}
+IsRefusalOfPlan (Input (TooMany Nodes)) = Unit {0}
+IsRefusalOfPlan (Input (TooMany Chains)) = Unit {0}
 IsRefusalOfPlan Memory = Unit {0}
 IsRefusalOfPlan outcome = ⊥
+
+-- the refusals of a report on uncut points
+abbrev pub IsRefusalOfReport : Outcome → Type 0
+IsRefusalOfReport (Input (TooMany Points)) = Unit {0}
+IsRefusalOfReport Memory = Unit {0}
+IsRefusalOfReport outcome = ⊥

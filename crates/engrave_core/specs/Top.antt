@@ -2,8 +2,7 @@
 use Rattle.std.specs.Prelude.{ℕ, Option, List, codes}
 use Rattle.shop_port.specs.Counts.{Rose}
 use Rattle.shop_port.specs.Output.{Appended, AppendedPart}
-use Rattle.job_words.specs.declared.request.Request.{Request}
-use Rattle.engrave_core.specs.Due.{IsDue, IsGoodText}
+use Rattle.engrave_core.specs.Due.{IsDue}
 use Rattle.engrave_core.specs.Stored.{Files}
 use Rattle.engrave_core.specs.declared.outcome.Outcome.{Outcome}
 
@@ -25,9 +24,8 @@ pub record WritesPartOfReadFault (old new : Option (List ℕ)) (faults_before fa
   pub part : AppendedPart old new (codes "read fault\n")
   pub cause : Rose faults_before faults_now
 
--- a text was written that is good for the request: a G-code program is called clear, removes no point outside the drawing, and reaches
--- each contact
-pub record WritesGood (files : Files) (request : Option Request) (old new : Option (List ℕ)) : Type 0 where
+-- a text was written of which this is so
+pub record Writes (IsSo : List ℕ → Type 0) (old new : Option (List ℕ)) : Type 0 where
   pub text : List ℕ
-  pub good : IsGoodText files request text
+  pub so : IsSo text
   pub appended : Appended old new text

@@ -11,6 +11,7 @@ ghost use Rattle.engrave_core.specs.Outcome.{outcome_of};
 mod carve;
 mod check;
 mod contacts;
+mod cover;
 mod moves;
 mod probe;
 
@@ -64,6 +65,7 @@ fn run<D: Depot>(alloc: Global, request: &Request, depot: &mut D) -> Result<Vec<
             limit,
             safe,
             feed,
+            pitch,
         } => {
             let job = Job {
                 units: shape.units,
@@ -73,8 +75,15 @@ fn run<D: Depot>(alloc: Global, request: &Request, depot: &mut D) -> Result<Vec<
                 limit: *limit,
                 step: *step,
             };
-            carve::run(alloc, shape, &job, depot)
+            carve::run(alloc, shape, &job, *pitch, depot)
         }
+        Request::Cover {
+            shape,
+            code,
+            bit,
+            rmax,
+            pitch,
+        } => cover::run(alloc, shape, code, &bit_of(*bit, *rmax), *pitch, depot),
     }
 }
 

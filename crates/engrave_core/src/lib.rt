@@ -1,6 +1,6 @@
 //! The top call: from the words of a command and the bytes of its files to the outcome and the written text.
 //!
-//! The whole promise is in the clauses of `engrave`, first `safe`, `carved`, `exact` and `due`.
+//! The whole promise is in the clauses of `engrave`, first `safe`, `carved`, `covered`, `exact` and `due`.
 #![tactic(auto)]
 
 mod commands;

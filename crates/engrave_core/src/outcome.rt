@@ -60,6 +60,8 @@ pub enum Kind {
     Nodes,
     /// Chains of the carved path: more than 131,072.
     Chains,
+    /// Points of the report on what stays uncut, cut and uncut: more than 16,777,216.
+    Points,
 }
 
 impl Kind {
@@ -73,6 +75,7 @@ impl Kind {
             Kind::Contacts => "contacts",
             Kind::Nodes => "nodes",
             Kind::Chains => "chains",
+            Kind::Points => "points",
         }
     }
 }

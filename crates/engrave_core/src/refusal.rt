@@ -3,6 +3,7 @@ ghost use Rattle.std.specs.Prelude.{◌≡◌};
 
 use crate::outcome::{InputFault, Kind, Outcome, Which};
 use carve_plan::PlanFault;
+use coverage_report::CoverFault;
 use gcode_text::FinishFault;
 use gouge_checker::Verdict;
 use job_words::WordsFault;
@@ -118,6 +119,19 @@ impl From<PlanFault> for Refusal {
             PlanFault::TooManyNodes => Refusal::Input(InputFault::TooMany(Kind::Nodes)),
             PlanFault::TooManyChains => Refusal::Input(InputFault::TooMany(Kind::Chains)),
             PlanFault::Memory => Refusal::Memory,
+        }
+    }
+}
+
+impl From<CoverFault> for Refusal {
+    ghost use Rattle.engrave_core.specs.Refusals.{cover_refusal};
+
+    ghost from_gives = { λ fault refusal. refusal ≡ cover_refusal fault };
+
+    fn from(fault: CoverFault) -> Refusal {
+        match fault {
+            CoverFault::TooManyPoints => Refusal::Input(InputFault::TooMany(Kind::Points)),
+            CoverFault::Memory => Refusal::Memory,
         }
     }
 }

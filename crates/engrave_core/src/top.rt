@@ -3,11 +3,11 @@ ghost use Rattle.std.specs.Prelude.{◌≡◌, ◌⊎◌, map, string_bytes, IfS
 ghost use Rattle.job_words.specs.Request.{request_of};
 ghost use Rattle.shop_port.specs.Counts.{Rose};
 ghost use Rattle.shop_port.specs.Output.{Appended, AppendedPart};
-ghost use Rattle.engrave_core.specs.Due.{IsAccepted, IsAnswer, IsDue, IsSafeRun, IsTrueRun};
+ghost use Rattle.engrave_core.specs.Due.{IsAccepted, IsAnswer, IsDue, IsGoodText, IsSafeRun, IsTrueReport, IsTrueRun};
 ghost use Rattle.engrave_core.specs.Stored.{IsCaused};
 ghost use Rattle.engrave_core.specs.Line.{line_of};
 ghost use Rattle.engrave_core.specs.Outcome.{IfAnswered, IfRefused, HasText};
-ghost use Rattle.engrave_core.specs.Top.{WritesDue, WritesGood, WritesPart, WritesPartOfReadFault};
+ghost use Rattle.engrave_core.specs.Top.{Writes, WritesDue, WritesPart, WritesPartOfReadFault};
 
 use crate::commands::answer;
 use crate::line::line_of_refusal;
@@ -39,9 +39,14 @@ pub fn engrave<D: Depot, S: Sink>(
     ensures safe { IfSome (D.held depot.old) (λ files. result ≡ Outcome.Done → IsSafeRun files (request_of (map string_bytes words.now))) }
 
     // A G-code program that is written is called clear for its drawing and bit, removes no point outside the drawing, at any moment of
-    // any move, and goes, for each contact, as deep as fits at the centre of its greatest disc.
+    // any move, and goes, for each contact, as deep as fits at the centre of its greatest disc. The points that it prints as uncut are
+    // exactly those inside the drawing, of the report's distance, that no moment of it removes.
     ensures carved { IfSome (D.held depot.old) (λ files. result ≡ Outcome.Done →
-        WritesGood files (request_of (map string_bytes words.now)) (S.written out.old) (S.written out.new)) }
+        Writes (IsGoodText files (request_of (map string_bytes words.now))) (S.written out.old) (S.written out.new)) }
+
+    // And so are the points that are printed as uncut by a G-code program of anybody's.
+    ensures covered { IfSome (D.held depot.old) (λ files. result ≡ Outcome.Done →
+        Writes (IsTrueReport files (request_of (map string_bytes words.now))) (S.written out.old) (S.written out.new)) }
 
     // The verdict is exact: a program that is called clear is fit, and one that isn't isn't; where it is called a gouge or
     // outside, a moment of a move of the named line removes a point that isn't inside, for a gouge a point of the named edge.

@@ -9,15 +9,24 @@ use Rattle.integer_algebra.specs.Ranges.{IsUpTo}
 use Rattle.plane_exact.specs.Heights.{GridPlace}
 use Rattle.plane_exact.specs.Nodes.{AreWithinLimits, GridNode, IsChain, IsNode, joined, last_place, node_place, place_over}
 use Rattle.plane_exact.specs.Plane.{GridPoint}
+use Rattle.plane_exact.specs.Uncut.{UncutPoints}
 use Rattle.gcode_text.specs.Moves.{moves_of}
-use Rattle.gcode_text.specs.Path.{IsJob, ReadBackLaw, chain_lines, chain_moves, chain_places, end_line, end_text, height_line, job_note, moves_along, motion_word, node_line, path_lines, path_text, rapid, setup_lines, travel_line}
+use Rattle.gcode_text.specs.Path.{IsJob, ReadBackLaw, chain_lines, chain_moves, chain_places, closing_lines, closing_text, height_line, job_note, moves_along, motion_word, node_line, path_lines, path_text, program_text, rapid, setup_lines, travel_line}
+use Rattle.gcode_text.specs.Report.{report_lines}
 use Rattle.gcode_text.specs.Written.{WrittenLine, Note, IsNote, IsWritten, code_text, line_text}
 use Rattle.gcode_text.specs.declared.job.Job.{Job}
 use Rattle.gcode_text.specs.declared.written.Motion.TheVariants.{Rapid, Straight}
-use Rattle.gcode_text.proofs.Frames.{led_read_back, nothing_read_back, program_text}
+use Rattle.gcode_text.proofs.Closing.{report_noted}
+use Rattle.gcode_text.proofs.Frames.{led_read_back, nothing_read_back, framed_text}
 use Rattle.gcode_text.proofs.Leading.{LeadThrough}
 use Rattle.gcode_text.proofs.Placing.{depth_on, height_leads, height_on, node_leads, travel_leads}
 use Rattle.gcode_text.proofs.Readable.{height_written, job_note_is, node_written, travel_written}
+
+-- a chain has its nodes' places and two more
+pub chain_places-le : (job : Job) (nodes : List GridNode) → length (chain_places job nodes) ≤ 2 + length nodes
+chain_places-le job [] = omega arith
+chain_places-le job (first ∷ rest) =
+    omega (arith, length-append (map node_place rest) (place_over (last_place (first ∷ rest)) (pos job.safe) ∷ []), length-map rest node_place)
 
 module _ (job : Job) (is_job : IsJob job) where
   -- at the safe height
@@ -49,14 +58,10 @@ module _ (job : Job) (is_job : IsJob job) where
 
   -- ---- its length
 
-  chain_places-le : (nodes : List GridNode) → length (chain_places job nodes) ≤ 2 + length nodes
-  chain_places-le [] = omega arith
-  chain_places-le (first ∷ rest) = omega (arith, length-append (map node_place rest) (over (last_place (first ∷ rest)) ∷ []), length-map rest node_place)
-
   places-le : (chains : List (List GridNode)) → length (flat_map (chain_places job) chains) ≤ 2 * length chains + length (joined chains)
   places-le [] = omega arith
   places-le (nodes ∷ chains) =
-      omega (arith, length-append (chain_places job nodes) (flat_map (chain_places job) chains), length-append nodes (joined chains), chain_places-le nodes, places-le chains)
+      omega (arith, length-append (chain_places job nodes) (flat_map (chain_places job) chains), length-append nodes (joined chains), chain_places-le job nodes, places-le chains)
 
   -- ---- its lines
 
@@ -81,11 +86,11 @@ module _ (job : Job) (is_job : IsJob job) where
       (chains_written chains (All-tail IsChain nodes chains are_chains))
 
 -- a program of chains within the limits is read as exactly the moves through their nodes
-pub chains_read_back : (title : List ℕ) (job : Job) (chains : List (List GridNode)) (notes : List (List ℕ)) → IsJob job → IsNote title → All IsNote notes → All IsChain chains → AreWithinLimits chains → moves_of job.units (program_text title job (flat_map (chain_lines job) chains) notes) ≡ Ok (chain_moves job chains)
+pub chains_read_back : (title : List ℕ) (job : Job) (chains : List (List GridNode)) (notes : List (List ℕ)) → IsJob job → IsNote title → All IsNote notes → All IsChain chains → AreWithinLimits chains → moves_of job.units (framed_text title job (flat_map (chain_lines job) chains) notes) ≡ Ok (chain_moves job chains)
 unfolding chain_moves
 chains_read_back title job chains notes is_job is_title are_notes are_chains within = by chains are_chains within (chains_written job is_job chains are_chains)
   where
-    by : (chains : List (List GridNode)) → All IsChain chains → AreWithinLimits chains → All IsWritten (flat_map (chain_lines job) chains) → moves_of job.units (program_text title job (flat_map (chain_lines job) chains) notes) ≡ Ok (moves_along (flat_map (chain_places job) chains))
+    by : (chains : List (List GridNode)) → All IsChain chains → AreWithinLimits chains → All IsWritten (flat_map (chain_lines job) chains) → moves_of job.units (framed_text title job (flat_map (chain_lines job) chains) notes) ≡ Ok (moves_along (flat_map (chain_places job) chains))
     by [] are_chains within written =
         nothing_read_back title job notes (record { titled = is_title; of_job = is_job; written = written; noted = are_notes })
     by ([] ∷ chains) are_chains within written = let some = (All-head IsChain [] chains are_chains).some in absurd (omega arith)
@@ -97,14 +102,14 @@ chains_read_back title job chains notes is_job is_title are_notes are_chains wit
         (record { titled = is_title; of_job = is_job; written = written; noted = are_notes })
         (All-head IsNode first rest (All-head IsChain (first ∷ rest) chains are_chains).each).at (chains_lead job is_job all are_chains first.at).1 (omega (arith, places-le job is_job all))
 
-path_text_is : (job : Job) (chains : List (List GridNode)) → path_text job chains ++ end_text ≡ program_text (job_note job) job (flat_map (chain_lines job) chains) []
-unfolding path_text end_text
-path_text_is job chains =
-    sym (flat_map-append (λ line. line_text line ++ 10 ∷ []) (path_lines job chains) (end_line ∷ []))
-    ∙ ap (λ lines. code_text (Note (job_note job) ∷ lines)) (append_assoc (setup_lines job) (flat_map (chain_lines job) chains) (end_line ∷ []))
+program_text_is : (job : Job) (chains : List (List GridNode)) (uncut : UncutPoints) → program_text job chains uncut ≡ framed_text (job_note job) job (flat_map (chain_lines job) chains) (report_lines uncut)
+unfolding path_text closing_text
+program_text_is job chains uncut =
+    sym (flat_map-append (λ line. line_text line ++ 10 ∷ []) (path_lines job chains) (closing_lines uncut))
+    ∙ ap (λ lines. code_text (Note (job_note job) ∷ lines)) (append_assoc (setup_lines job) (flat_map (chain_lines job) chains) (closing_lines uncut))
 
 -- the program of a path
 pub read_back : ReadBackLaw
-read_back job chains is_job are_chains within =
-    ap (moves_of job.units) (path_text_is job chains)
-    ∙ chains_read_back (job_note job) job chains [] is_job (job_note_is job) (All-nil IsNote) are_chains within
+read_back job chains uncut is_job are_chains within is_report =
+    ap (moves_of job.units) (program_text_is job chains uncut)
+    ∙ chains_read_back (job_note job) job chains (report_lines uncut) is_job (job_note_is job) (report_noted uncut is_report) are_chains within

@@ -29,12 +29,12 @@ use Rattle.gcode_text.proofs.Placing.{height_block, height_on, height_read, trav
 use Rattle.gcode_text.proofs.Readable.{end_written, setup_written}
 
 -- the notes behind the lines of a program, and its end
-abbrev pub closing_lines : List (List ℕ) → List WrittenLine
-closing_lines notes = map Note notes ++ end_line ∷ []
+abbrev pub framed_end : List (List ℕ) → List WrittenLine
+framed_end notes = map Note notes ++ end_line ∷ []
 
 -- a title, the setup for a job, any lines, any notes and the end
-abbrev pub program_lines : (title : List ℕ) → Job → List WrittenLine → (notes : List (List ℕ)) → List WrittenLine
-program_lines title job lines notes = Note title ∷ (setup_lines job ++ (lines ++ closing_lines notes))
+abbrev pub framed_lines : (title : List ℕ) → Job → List WrittenLine → (notes : List (List ℕ)) → List WrittenLine
+framed_lines title job lines notes = Note title ∷ (setup_lines job ++ (lines ++ framed_end notes))
 
 -- a program of which each line is read as it was meant
 pub record IsProgram (title : List ℕ) (job : Job) (lines : List WrittenLine) (notes : List (List ℕ)) : Type 0 where
@@ -85,29 +85,29 @@ opened title job lines is_job =
 -- ---- behind the lines
 
 -- notes and the end make no move, where the bit isn't below the surface at a place that isn't known
-closed : (units : Units) (number count : ℕ) (old : Position) (notes : List (List ℕ)) → (is_below old.z && not (is_some (spot_of old))) ≡ false → moves_of_lines units number count old (closing_lines notes) ≡ Ok []
+closed : (units : Units) (number count : ℕ) (old : Position) (notes : List (List ℕ)) → (is_below old.z && not (is_some (spot_of old))) ≡ false → moves_of_lines units number count old (framed_end notes) ≡ Ok []
 closed units number count old [] calm = rw calm refl
 closed units number count old (note ∷ notes) calm =
-    passes_still units (Note note) number count old empty_block (closing_lines notes) refl (rw calm refl) refl
+    passes_still units (Note note) number count old empty_block (framed_end notes) refl (rw calm refl) refl
     ∙ closed units (number + 1) count old notes calm
 
 -- ---- whole programs
 
-program_written : (title : List ℕ) (job : Job) (lines : List WrittenLine) (notes : List (List ℕ)) → IsProgram title job lines notes → All IsWritten (program_lines title job lines notes)
+program_written : (title : List ℕ) (job : Job) (lines : List WrittenLine) (notes : List (List ℕ)) → IsProgram title job lines notes → All IsWritten (framed_lines title job lines notes)
 program_written title job lines notes is =
-    let closing = closing_lines notes in
+    let closing = framed_end notes in
     All-cons IsWritten (Note title) (setup_lines job ++ (lines ++ closing)) is.titled
     (All-append IsWritten (setup_lines job) (lines ++ closing) (setup_written job is.of_job)
     (All-append IsWritten lines closing is.written (All-push IsWritten (map Note notes) end_line (All-map IsWritten Note notes is.noted) end_written)))
 
-abbrev pub program_text : List ℕ → Job → List WrittenLine → List (List ℕ) → List ℕ
-program_text title job lines notes = code_text (program_lines title job lines notes)
+abbrev pub framed_text : List ℕ → Job → List WrittenLine → List (List ℕ) → List ℕ
+framed_text title job lines notes = code_text (framed_lines title job lines notes)
 
 -- a program of no lines makes no move
-pub nothing_read_back : (title : List ℕ) (job : Job) (notes : List (List ℕ)) → IsProgram title job [] notes → moves_of job.units (program_text title job [] notes) ≡ Ok []
+pub nothing_read_back : (title : List ℕ) (job : Job) (notes : List (List ℕ)) → IsProgram title job [] notes → moves_of job.units (framed_text title job [] notes) ≡ Ok []
 nothing_read_back title job notes is =
-    moves_of-code_text job.units (program_lines title job [] notes) (program_written title job [] notes is)
-    ∙ opened title job (closing_lines notes) is.of_job
+    moves_of-code_text job.units (framed_lines title job [] notes) (program_written title job [] notes is)
+    ∙ opened title job (framed_end notes) is.of_job
     ∙ closed job.units 6 0 (raised job.safe) notes (and_left _ true (not_below job.safe))
 
 travels : (safe : ℕ) (p : GridPoint) → judge_move 6 0 (raised safe) (travel_block p) ≡ Ok None
@@ -115,12 +115,12 @@ travels safe p = ap (λ below. cond (below && true) (Err kind.Unplaced) (Ok None
 
 -- A program whose lines go over a point and lead from there through places is read as the moves through them. The sixth line
 -- takes the bit over the point, and as its place isn't known before, that is no move.
-pub led_read_back : (title : List ℕ) (job : Job) (first : GridPoint) (lines : List WrittenLine) (places : List GridPlace) (notes : List (List ℕ)) → IsProgram title job (travel_line job.units first ∷ lines) notes → IsOnGrid first.x first.y → LeadThrough job.units (place_over first (pos job.safe)) lines places → length places ≤ MOST_MOVES → moves_of job.units (program_text title job (travel_line job.units first ∷ lines) notes) ≡ Ok (moves_through 7 (place_over first (pos job.safe)) places)
+pub led_read_back : (title : List ℕ) (job : Job) (first : GridPoint) (lines : List WrittenLine) (places : List GridPlace) (notes : List (List ℕ)) → IsProgram title job (travel_line job.units first ∷ lines) notes → IsOnGrid first.x first.y → LeadThrough job.units (place_over first (pos job.safe)) lines places → length places ≤ MOST_MOVES → moves_of job.units (framed_text title job (travel_line job.units first ∷ lines) notes) ≡ Ok (moves_through 7 (place_over first (pos job.safe)) places)
 led_read_back title job first lines places notes is on leads few =
     let travel = travel_line job.units first in
-    let rest = lines ++ closing_lines notes in
-    moves_of-code_text job.units (program_lines title job (travel ∷ lines) notes) (program_written title job (travel ∷ lines) notes is)
+    let rest = lines ++ framed_end notes in
+    moves_of-code_text job.units (framed_lines title job (travel ∷ lines) notes) (program_written title job (travel ∷ lines) notes is)
     ∙ opened title job (travel ∷ rest) is.of_job
     ∙ passes_still job.units travel 6 0 (raised job.safe) (travel_block first) rest (travel_read job.units first on) (travels job.safe first) refl
-    ∙ led_through job.units 7 0 (place_over first (pos job.safe)) lines places (closing_lines notes) leads (omega arith)
+    ∙ led_through job.units 7 0 (place_over first (pos job.safe)) lines places (framed_end notes) leads (omega arith)
     (λ number count at. closed job.units number count (at_place at) notes (and-false (is_below (Some at.h))))

@@ -1,4 +1,4 @@
--- A text that grows by the lines of one item after the other.
+-- A list that grows by what one item after the other gives, as a text by lines.
 use Rattle.std.proofs.Common.{◌≡◌, ℕ, ◌+◌, ◌<◌, List, [], ◌∷◌, ◌++◌, length, get_or, take, flat_map, sym, ap, ◌∙◌, append_assoc}
 use Rattle.std.proofs.lemmas.List.{append-nil, take_more}
 use Rattle.std.proofs.lemmas.List.Concat.{flat_map-append}
@@ -10,6 +10,22 @@ use Rattle.gcode_text.specs.declared.job.Job.{Job}
 pub code_text-append : (xs ys : List WrittenLine) → code_text (xs ++ ys) ≡ code_text xs ++ code_text ys
 code_text-append = flat_map-append (λ line. line_text line ++ 10 ∷ [])
 
+one_more : {A B : Type 0} (f : A → List B) (xs : List A) (i : ℕ) (d : A) → i < length xs
+    → flat_map f (take i xs) ++ f (get_or xs i d) ≡ flat_map f (take (i + 1) xs)
+one_more f xs i d inside =
+    ap (λ items. flat_map f (take i xs) ++ items) (sym (append-nil (f (get_or xs i d))))
+    ∙ sym (flat_map-append f (take i xs) (get_or xs i d ∷ []))
+    ∙ ap (λ items. flat_map f items) (sym (take_more xs i d inside))
+
+-- what the items so far give, and then one more
+pub grown_by : {A B : Type 0} (f : A → List B) (xs : List A) (i : ℕ) (d : A) (old now next : List B) → i < length xs
+    → now ≡ old ++ flat_map f (take i xs) → next ≡ now ++ f (get_or xs i d) → next ≡ old ++ flat_map f (take (i + 1) xs)
+grown_by f xs i d old now next inside is more =
+    more
+    ∙ ap (λ items. items ++ f (get_or xs i d)) is
+    ∙ append_assoc old (flat_map f (take i xs)) (f (get_or xs i d))
+    ∙ ap (λ items. old ++ items) (one_more f xs i d inside)
+
 -- the text of the lines of the items so far, and then of one more
 pub grown : {A : Type 0} (f : A → List WrittenLine) (xs : List A) (i : ℕ) (d : A) (old now next : List ℕ) → i < length xs
     → now ≡ old ++ code_text (flat_map f (take i xs)) → next ≡ now ++ code_text (f (get_or xs i d)) → next ≡ old ++ code_text (flat_map f (take (i + 1) xs))
@@ -18,14 +34,7 @@ grown f xs i d old now next inside is more =
     ∙ ap (λ text. text ++ code_text (f (get_or xs i d))) is
     ∙ append_assoc old (code_text (flat_map f (take i xs))) (code_text (f (get_or xs i d)))
     ∙ ap (λ text. old ++ text) (sym (code_text-append (flat_map f (take i xs)) (f (get_or xs i d))))
-    ∙ ap (λ lines. old ++ code_text lines) (lines_more f xs i d inside)
-  where
-    lines_more : {A : Type 0} (f : A → List WrittenLine) (xs : List A) (i : ℕ) (d : A) → i < length xs
-        → flat_map f (take i xs) ++ f (get_or xs i d) ≡ flat_map f (take (i + 1) xs)
-    lines_more f xs i d inside =
-        ap (λ lines. flat_map f (take i xs) ++ lines) (sym (append-nil (f (get_or xs i d))))
-        ∙ sym (flat_map-append f (take i xs) (get_or xs i d ∷ []))
-        ∙ ap (λ items. flat_map f items) (sym (take_more xs i d inside))
+    ∙ ap (λ lines. old ++ code_text lines) (one_more f xs i d inside)
 
 -- the text of a note, the setup and the chains is that of the path
 pub path_written : (job : Job) (chains : List (List GridNode)) (note noted set_up whole : List ℕ) → note ≡ job_note job → noted ≡ code_text (Note note ∷ [])

@@ -1,5 +1,6 @@
 -- The lemmas of the crate.
 pub mod Chains
+pub mod Closing
 pub mod Codes
 pub mod Collects
 pub mod Cutting
@@ -14,3 +15,4 @@ pub mod Placing
 pub mod Readable
 pub mod Reported
 pub mod Stepped
+pub mod Walks

@@ -6,8 +6,10 @@ pub mod Moves
 pub mod Path
 pub mod Plain
 pub mod Reading
+pub mod Report
 pub mod Runs
 pub mod Stepping
+pub mod Walk
 pub mod Within
 pub mod Words
 pub mod Written

@@ -7,10 +7,12 @@ use Rattle.plane_exact.specs.Cone.{IsFromOneTo}
 use Rattle.plane_exact.specs.Heights.{GridPlace}
 use Rattle.plane_exact.specs.Nodes.{AreWithinLimits, GridNode, IsChain, last_place, node_place, place_over}
 use Rattle.plane_exact.specs.Plane.{GridPoint}
+use Rattle.plane_exact.specs.Uncut.{UncutPoints}
 use Rattle.plane_exact.specs.declared.moves.LineMove.{LineMove}
 use Rattle.plane_exact.specs.declared.moves.TheConstants.{MOST_DEPTH}
 use Rattle.gcode_text.specs.Grammar.{Word}
 use Rattle.gcode_text.specs.Moves.{moves_of}
+use Rattle.gcode_text.specs.Report.{IsReport, report_lines}
 use Rattle.gcode_text.specs.Written.{WrittenLine, Note, Words, code_text}
 use Rattle.gcode_text.specs.declared.job.Job.{Job}
 use Rattle.gcode_text.specs.declared.written.Motion.{Motion}
@@ -88,17 +90,25 @@ chain_lines job (first ∷ rest) =
 abbrev pub path_lines : Job → List (List GridNode) → List WrittenLine
 path_lines job chains = Note (job_note job) ∷ (setup_lines job ++ flat_map (chain_lines job) chains)
 
--- the program's end: M2
-abbrev pub end_line : WrittenLine
-end_line = Words (word 77 (codes "2") ∷ [])
-
 -- the text of a program but for its end
 unfoldable pub path_text : Job → List (List GridNode) → List ℕ
 path_text job chains = code_text (path_lines job chains)
 
--- the text of its end
-unfoldable pub end_text : List ℕ
-end_text = code_text (end_line ∷ [])
+-- the program's end: M2
+abbrev pub end_line : WrittenLine
+end_line = Words (word 77 (codes "2") ∷ [])
+
+-- what is left uncut, a note a line, and the end
+abbrev pub closing_lines : UncutPoints → List WrittenLine
+closing_lines uncut = map Note (report_lines uncut) ++ end_line ∷ []
+
+-- the text of that
+unfoldable pub closing_text : UncutPoints → List ℕ
+closing_text uncut = code_text (closing_lines uncut)
+
+-- the text of a program
+abbrev pub program_text : Job → List (List GridNode) → UncutPoints → List ℕ
+program_text job chains uncut = path_text job chains ++ closing_text uncut
 
 -- ---- the moves
 
@@ -122,10 +132,12 @@ moves_along (start ∷ places) = moves_through 7 start places
 unfoldable pub chain_moves : Job → List (List GridNode) → List LineMove
 chain_moves job chains = moves_along (flat_map (chain_places job) chains)
 
--- the whole text is read as exactly these moves
-abbrev pub IsReadBack : Job → List (List GridNode) → Type 0
-IsReadBack job chains = moves_of job.units (path_text job chains ++ end_text) ≡ Ok (chain_moves job chains)
+-- the text of the program is read as exactly its moves
+abbrev pub IsReadBack : Job → List (List GridNode) → UncutPoints → Type 0
+IsReadBack job chains uncut = moves_of job.units (program_text job chains uncut) ≡ Ok (chain_moves job chains)
 
--- a path within the limits is read back
+-- the program of a path within the limits is read back
 abbrev pub ReadBackLaw : Type 0
-ReadBackLaw = (job : Job) (chains : List (List GridNode)) → IsJob job → All IsChain chains → AreWithinLimits chains → IsReadBack job chains
+ReadBackLaw =
+    (job : Job) (chains : List (List GridNode)) (uncut : UncutPoints)
+    → IsJob job → All IsChain chains → AreWithinLimits chains → IsReport uncut → IsReadBack job chains uncut

@@ -4,8 +4,9 @@
 //! cut, or the fault of the first faulty line. `read_code` says the same of a text that lies there whole, and `Stepper` of one
 //! that comes byte by byte, without memory.
 //!
-//! And the other way: `write_path` writes the program of a job, its clause `text` says which text, and `read_back` that it is read
-//! as exactly the moves through the nodes of its chains.
+//! And the other way: `write_code` writes the program of a job with a report on what it leaves uncut, its clause `text` says which
+//! text, and `read_back` that it is read as exactly the moves through the nodes of its chains. `chain_moves` gives these moves
+//! without the text.
 #![tactic(auto)]
 
 mod block;
@@ -15,8 +16,10 @@ mod judge;
 pub mod law;
 mod line;
 mod modal;
+mod path_moves;
 mod plain;
 mod reader;
+mod report;
 mod state;
 mod stepper;
 #[cfg(test)]
@@ -29,8 +32,9 @@ pub use fault::{CodeFault, CodeKind, FinishFault};
 pub use job::{Job, MOST_FEED, MOST_SAFE_HEIGHT};
 pub use line::MOST_LINE_BYTES;
 pub use modal::MOST_MOVES;
+pub use path_moves::chain_moves;
 pub use reader::{Reader, read_code};
+pub use report::write_report;
 pub use state::{MOST_CODE_BYTES, Turn};
 pub use stepper::Stepper;
-pub use writer::write_path;
-pub use written::write_end;
+pub use writer::write_code;

@@ -1,23 +1,41 @@
 // The program of a job: its text, and what a reader of it finds.
 ghost use Rattle.std.specs.Prelude.{◌≡◌, ◌++◌, All, flat_map, map, string_bytes, IfOk, OnOk};
 ghost use Rattle.plane_exact.specs.Nodes.{AreWithinLimits, IsChain};
-ghost use Rattle.gcode_text.specs.Path.{IsJob, IsReadBack, chain_lines, job_note, node_line, path_text, setup_lines};
+ghost use Rattle.gcode_text.specs.Path.{IsJob, IsReadBack, chain_lines, job_note, node_line, path_text, program_text, setup_lines};
 ghost use Rattle.gcode_text.specs.Written.{code_text};
 
 use crate::job::Job;
-use crate::written::{Motion, write_height, write_node, write_note, write_travel};
+use crate::report::write_report;
+use crate::written::{Motion, write_end, write_height, write_node, write_note, write_travel};
 use grid_num::{Units, write_decimal};
-use plane_exact::{Chain, Node};
+use plane_exact::{Chain, Node, Uncut};
 use std::alloc::{AllocError, Global};
 
-/// The text of the job's program, but for its end, which `write_end` adds: the bit is taken over the first node of each chain at the
-/// safe height, down to the node, straight through the others, and up again. The error is running out of memory.
-pub fn write_path(alloc: Global, job: &Job, chains: &[Chain]) -> Result<Vec<u8>, AllocError>
+/// The text of the job's program: the bit is taken over the first node of each chain at the safe height, down to the node,
+/// straight through the others, and up again. Behind that stand the lines of the report, each a comment, and the end. The error
+/// is running out of memory.
+pub fn write_code(
+    alloc: Global,
+    job: &Job,
+    chains: &[Chain],
+    uncut: &Uncut,
+) -> Result<Vec<u8>, AllocError>
     requires { IsJob job.now }
-    // The text of the lines.
+    // The text of the program.
+    ensures text { IfOk result (λ code. code.items ≡ program_text job.now chains.now uncut.now) }
+    // It is read as exactly the moves through the chains' nodes.
+    ensures read_back { IfOk result (λ _. AreWithinLimits chains.now → IsReadBack job.now chains.now uncut.now) }
+{
+    let mut code = write_path(alloc, job, chains)?;
+    write_report(uncut, "(", ")\n", &mut code)?;
+    write_end(&mut code)?;
+    Ok(code)
+}
+
+// The program but for its report and its end.
+fn write_path(alloc: Global, job: &Job, chains: &[Chain]) -> Result<Vec<u8>, AllocError>
     ensures text { IfOk result (λ code. code.items ≡ path_text job.now chains.now) }
-    // With its end it is read as exactly the moves through the chains' nodes.
-    ensures read_back { IfOk result (λ _. AreWithinLimits chains.now → IsReadBack job.now chains.now) }
+    ensures range { IfOk result (λ _. All IsChain chains.now) }
 {
     let mut code = Vec::new(alloc);
     write_note(note_of(alloc, job)?.as_str(), &mut code)?;

@@ -1,6 +1,6 @@
 // The lines of a program, each written at the end of a text.
 ghost use Rattle.std.specs.Prelude.{◌≡◌, ◌++◌, ◌∷◌, [], OnOk};
-ghost use Rattle.gcode_text.specs.Path.{end_text, height_line, length_word, motion_word, node_line, travel_line};
+ghost use Rattle.gcode_text.specs.Path.{end_line, height_line, length_word, motion_word, node_line, travel_line};
 ghost use Rattle.gcode_text.specs.Written.{Note, code_text, word_text};
 
 use grid_num::{Units, write_decimal};
@@ -61,9 +61,8 @@ pub fn write_node(units: Units, node: Node, code: &mut Vec<u8>) -> Result<(), Al
 }
 
 /// The program's end.
-#[tactic(auto, unfolding(crate::specs::Path::end_text))]
 pub fn write_end(code: &mut Vec<u8>) -> Result<(), AllocError>
-    ensures { OnOk result (code.new.items ≡ code.old.items ++ end_text) }
+    ensures { OnOk result (code.new.items ≡ code.old.items ++ code_text (end_line ∷ [])) }
 {
     code.extend_from_slice(b"M2\n")
 }

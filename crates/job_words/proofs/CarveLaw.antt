@@ -5,19 +5,20 @@ use Rattle.clap.proofs.WalkLemmas.{both}
 use Rattle.job_words.specs.Commands.Carve.{carve, carve_by, carve_options, carve_request}
 use Rattle.job_words.specs.Plain.{GivenOption, IsGiven, given_value, is_in_form}
 use Rattle.job_words.specs.declared.request.DrawingWords.{DrawingWords}
-use Rattle.job_words.proofs.Forms.{Is, bit_some, feed_some, limit_some, none_is_not, rmax_some, safe_some, shape_some, step_some}
+use Rattle.job_words.proofs.Forms.{Is, bit_some, feed_some, limit_some, none_is_not, pitch_some, rmax_some, safe_some, shape_some, step_some}
 use Rattle.job_words.proofs.Requests.{IsLawful}
 
-carve_some : (bit : Option (ℕ × ℕ)) (rmax step limit safe feed : Option ℕ) (shape : Option DrawingWords)
-    → Is bit → Is rmax → Is step → Is limit → Is safe → Is feed → Is shape → Is (carve_by bit rmax step limit safe feed shape)
-carve_some (Some bit) (Some rmax) (Some step) (Some limit) (Some safe) (Some feed) (Some shape) b r t l s f d = refl
-carve_some None rmax step limit safe feed shape b r t l s f d = none_is_not b
-carve_some (Some bit) None step limit safe feed shape b r t l s f d = none_is_not r
-carve_some (Some bit) (Some rmax) None limit safe feed shape b r t l s f d = none_is_not t
-carve_some (Some bit) (Some rmax) (Some step) None safe feed shape b r t l s f d = none_is_not l
-carve_some (Some bit) (Some rmax) (Some step) (Some limit) None feed shape b r t l s f d = none_is_not s
-carve_some (Some bit) (Some rmax) (Some step) (Some limit) (Some safe) None shape b r t l s f d = none_is_not f
-carve_some (Some bit) (Some rmax) (Some step) (Some limit) (Some safe) (Some feed) None b r t l s f d = none_is_not d
+carve_some : (bit : Option (ℕ × ℕ)) (rmax step limit safe feed pitch : Option ℕ) (shape : Option DrawingWords)
+    → Is bit → Is rmax → Is step → Is limit → Is safe → Is feed → Is pitch → Is shape → Is (carve_by bit rmax step limit safe feed pitch shape)
+carve_some (Some bit) (Some rmax) (Some step) (Some limit) (Some safe) (Some feed) (Some pitch) (Some shape) b r t l s f p d = refl
+carve_some None rmax step limit safe feed pitch shape b r t l s f p d = none_is_not b
+carve_some (Some bit) None step limit safe feed pitch shape b r t l s f p d = none_is_not r
+carve_some (Some bit) (Some rmax) None limit safe feed pitch shape b r t l s f p d = none_is_not t
+carve_some (Some bit) (Some rmax) (Some step) None safe feed pitch shape b r t l s f p d = none_is_not l
+carve_some (Some bit) (Some rmax) (Some step) (Some limit) None feed pitch shape b r t l s f p d = none_is_not s
+carve_some (Some bit) (Some rmax) (Some step) (Some limit) (Some safe) None pitch shape b r t l s f p d = none_is_not f
+carve_some (Some bit) (Some rmax) (Some step) (Some limit) (Some safe) (Some feed) None shape b r t l s f p d = none_is_not p
+carve_some (Some bit) (Some rmax) (Some step) (Some limit) (Some safe) (Some feed) (Some pitch) None b r t l s f p d = none_is_not d
 
 request_in_form : (given : List GivenOption) → list_all is_in_form given ≡ true → IsGiven carve.options given → Is (carve.request (given_value given))
 unfolding carve_options carve_request
@@ -27,8 +28,8 @@ request_in_form given in_form are =
     let rmax = both (is_some (value (codes "rmax"))) _ bit.1 in
     let step = both (is_some (value (codes "step"))) _ rmax.1 in
     let drawing = both (is_some (value (codes "drawing"))) _ step.1 in
-    carve_some _ _ _ _ _ _ _ (bit_some given in_form bit.0) (rmax_some given in_form rmax.0) (step_some given in_form step.0)
-    (limit_some given in_form) (safe_some given in_form) (feed_some given in_form) (shape_some given in_form drawing.0)
+    carve_some _ _ _ _ _ _ _ _ (bit_some given in_form bit.0) (rmax_some given in_form rmax.0) (step_some given in_form step.0)
+    (limit_some given in_form) (safe_some given in_form) (feed_some given in_form) (pitch_some given in_form) (shape_some given in_form drawing.0)
 
 pub carve_law : IsLawful carve
 unfolding carve_options

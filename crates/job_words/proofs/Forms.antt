@@ -8,7 +8,7 @@ use Rattle.clap.proofs.WalkLemmas.{both}
 use Rattle.grid_num.specs.declared.units.Units.{Units}
 use Rattle.job_words.specs.Plain.{GivenOption, given_value, is_in_form}
 use Rattle.job_words.specs.Shape.{shape_by, shape_of}
-use Rattle.job_words.specs.Values.{at_of, bit_of, feed_of, form_named, limit_of, number_of, or_default, point_of, rmax_of, safe_of, slope_of, step_of, units_named, units_of}
+use Rattle.job_words.specs.Values.{at_of, bit_of, feed_of, form_named, limit_of, number_of, or_default, pitch_of, point_of, rmax_of, safe_of, slope_of, step_of, units_named, units_of}
 use Rattle.job_words.specs.declared.request.FormWord.{FormWord}
 
 abbrev pub Is : {A : Type 0} → Option A → Type 0
@@ -81,6 +81,9 @@ module _ (given : List GivenOption) (in_form : list_all is_in_form given ≡ tru
 
   pub feed_some : Is (feed_of (value (codes "feed")))
   feed_some = default_some _ (number_of 10000) (value (codes "feed")) (fits given in_form (codes "feed"))
+
+  pub pitch_some : Is (pitch_of (value (codes "pitch")))
+  pitch_some = default_some _ (number_of 32767) (value (codes "pitch")) (fits given in_form (codes "pitch"))
 
   pub shape_some : Is (value (codes "drawing")) → Is (shape_of value)
   unfolding shape_of

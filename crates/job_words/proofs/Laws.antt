@@ -2,18 +2,18 @@
 use Rattle.std.proofs.Common.{List}
 use Rattle.std.specs.Prelude.{All}
 use Rattle.std.proofs.lemmas.List.Elements.{All-from_recursion, All-weaker}
-use Rattle.job_words.specs.Command.{Command}
 use Rattle.job_words.specs.Commands.{commands}
 use Rattle.job_words.specs.Plain.{GivenOption, IsAcceptedInForm, IsGiven, IsRequestOfGiven}
 use Rattle.job_words.proofs.CarveLaw.{carve_law}
 use Rattle.job_words.proofs.CheckLaw.{check_law}
 use Rattle.job_words.proofs.ContactsLaw.{contacts_law}
+use Rattle.job_words.proofs.CoverLaw.{cover_law}
 use Rattle.job_words.proofs.MovesLaw.{moves_law}
 use Rattle.job_words.proofs.ProbeLaw.{probe_law}
 use Rattle.job_words.proofs.Requests.{IsLawful, accepted_in_form, request_of-given}
 
 lawful : All IsLawful commands
-lawful = All-from_recursion IsLawful commands (probe_law, (moves_law, (check_law, (contacts_law, (carve_law, tt)))))
+lawful = All-from_recursion IsLawful commands (probe_law, (moves_law, (check_law, (contacts_law, (carve_law, (cover_law, tt))))))
 
 pub all_requests_of_given : All (λ command. (given : List GivenOption) → IsGiven command.options given → IsRequestOfGiven command given) commands
 all_requests_of_given = All-weaker IsLawful _ request_of-given commands lawful

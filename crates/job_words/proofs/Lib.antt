@@ -4,6 +4,7 @@ pub mod Apps
 pub mod CarveLaw
 pub mod CheckLaw
 pub mod ContactsLaw
+pub mod CoverLaw
 pub mod Forms
 pub mod Laws
 pub mod MovesLaw

@@ -1,5 +1,5 @@
 -- The request of a command's name and words `--name=value` for its options.
-use Rattle.std.proofs.Common.{◌≡◌, ◌∙◌, ℕ, cond, true, ap, ap₂, List, ◌∷◌, map, Some, None, is_some}
+use Rattle.std.proofs.Common.{◌≡◌, ◌∙◌, cond, true, ap, ap₂, List, ◌∷◌, map, Some, None, is_some}
 use Rattle.std.specs.List.{list_all}
 use Rattle.std.specs.Prelude.{option_and_then}
 use Rattle.job_words.specs.Command.{Command}

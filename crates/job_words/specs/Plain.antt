@@ -66,6 +66,7 @@ is_in_form given =
     else if bytes_eq given.name (codes "limit") then is_some (number_of 32767 given.value)
     else if bytes_eq given.name (codes "safe") then is_some (number_of 32767 given.value)
     else if bytes_eq given.name (codes "feed") then is_some (number_of 10000 given.value)
+    else if bytes_eq given.name (codes "pitch") then is_some (number_of 32767 given.value)
     else if bytes_eq given.name (codes "form") then is_some (form_named given.value)
     else if bytes_eq given.name (codes "units") then is_some (units_named given.value)
     else true

@@ -5,6 +5,7 @@ use Rattle.job_words.specs.Command.{Command}
 use Rattle.job_words.specs.Commands.{commands, named_among}
 use Rattle.job_words.specs.Commands.Carve.{IsCarveInRange}
 use Rattle.job_words.specs.Commands.Contacts.{IsContactsInRange}
+use Rattle.job_words.specs.Commands.Cover.{IsCoverInRange}
 use Rattle.job_words.specs.Commands.Probe.{IsProbeInRange}
 use Rattle.job_words.specs.Options.{is_accepted, value_in}
 use Rattle.job_words.specs.declared.request.Request.{Request}
@@ -27,4 +28,5 @@ IsInRange (request.Probe shape at bit rmax limit) = IsProbeInRange bit rmax limi
 IsInRange (request.Moves code units) = Unit {0}
 IsInRange (request.Check shape code bit rmax) = IsCone bit.0 bit.1 rmax
 IsInRange (request.Contacts shape step rmax) = IsContactsInRange step rmax
-IsInRange (request.Carve shape bit rmax step limit safe feed) = IsCarveInRange bit rmax step limit safe feed
+IsInRange (request.Carve shape bit rmax step limit safe feed pitch) = IsCarveInRange bit rmax step limit safe feed pitch
+IsInRange (request.Cover shape code bit rmax pitch) = IsCoverInRange bit rmax pitch

@@ -81,6 +81,10 @@ safe_of = or_default 200 (number_of 32767)
 abbrev pub feed_of : Option (List ℕ) → Option ℕ
 feed_of = or_default 500 (number_of 10000)
 
+-- `--pitch`, from 1 to 32,767, and 10 where it isn't given
+abbrev pub pitch_of : Option (List ℕ) → Option ℕ
+pitch_of = or_default 10 (number_of 32767)
+
 -- `--form`, loops where it isn't given
 abbrev pub form_of : Option (List ℕ) → Option FormWord
 form_of = or_default Loops form_named

@@ -3,5 +3,6 @@
 pub mod carve;
 pub mod check;
 pub mod contacts;
+pub mod cover;
 pub mod moves;
 pub mod probe;

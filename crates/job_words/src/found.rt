@@ -2,7 +2,7 @@
 ghost use Rattle.std.specs.Prelude.{◌≡◌, IfOk, IfSome, Some, None, Err, codes};
 ghost use Rattle.clap.specs.Words.{first_value, found_of};
 ghost use Rattle.plane_exact.specs.Cone.{IsFromOneTo};
-ghost use Rattle.job_words.specs.Values.{at_of, bit_of, rmax_of, step_of, limit_of, safe_of, feed_of, form_of, number_of, or_default, units_of};
+ghost use Rattle.job_words.specs.Values.{at_of, bit_of, rmax_of, step_of, limit_of, safe_of, feed_of, pitch_of, form_of, number_of, or_default, units_of};
 ghost use Rattle.job_words.specs.Shape.{shape_of};
 
 use crate::fault::WordsFault;
@@ -47,6 +47,11 @@ pub const SAFE: CommandOption = CommandOption {
 
 pub const FEED: CommandOption = CommandOption {
     name: "feed",
+    required: false,
+};
+
+pub const PITCH: CommandOption = CommandOption {
+    name: "pitch",
     required: false,
 };
 
@@ -119,6 +124,14 @@ pub fn feed_in(found: &ArgMatches) -> Option<u32>
     ensures range { IfSome result (IsFromOneTo 10000) }
 {
     number_in(found, "feed", 500, 10_000)
+}
+
+/// 10 where the option isn't given.
+pub fn pitch_in(found: &ArgMatches) -> Option<u32>
+    ensures value { result ≡ pitch_of (first_value (found_of found.now) (codes "pitch")) }
+    ensures range { IfSome result (IsFromOneTo 32767) }
+{
+    number_in(found, "pitch", 10, 32_767)
 }
 
 // A number from 1 to the most, or the default where the option isn't given.

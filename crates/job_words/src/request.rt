@@ -73,5 +73,19 @@ pub enum Request {
         safe: u32,
         /// The feed, in millimetres or inches a minute, from 1 to 10,000.
         feed: u32,
+        /// The distance of the report's points in each direction, in grid units, from 1 to 32,767.
+        pitch: u32,
+    },
+    /// What a G-code program leaves uncut of a drawing.
+    Cover {
+        shape: DrawingWords,
+        /// The name of the G-code program's file; it may be empty.
+        code: Text,
+        /// As in `Probe`.
+        bit: (u32, u32),
+        /// As in `Probe`.
+        rmax: u32,
+        /// As in `Carve`.
+        pitch: u32,
     },
 }

@@ -3,6 +3,7 @@
 mod carve;
 mod check;
 mod contacts;
+mod cover;
 mod moves;
 mod probe;
 
@@ -79,10 +80,23 @@ fn text_of_request(alloc: Global, request: &Request) -> Result<String, AllocErro
             limit,
             safe,
             feed,
+            pitch,
         } => {
             let shape = shape_text(alloc, shape)?;
             let (sn, sd) = *bit;
-            format!(in alloc; "{shape} {sn}/{sd} {rmax} {step} {limit} {safe} {feed}")
+            format!(in alloc; "{shape} {sn}/{sd} {rmax} {step} {limit} {safe} {feed} {pitch}")
+        }
+        Request::Cover {
+            shape,
+            code,
+            bit,
+            rmax,
+            pitch,
+        } => {
+            let shape = shape_text(alloc, shape)?;
+            let code = code.as_str();
+            let (sn, sd) = *bit;
+            format!(in alloc; "{shape} {code} {sn}/{sd} {rmax} {pitch}")
         }
     }
 }
@@ -93,6 +107,7 @@ fn lines_ask_for_their_values(rt: HostRuntime) -> Result<(), Fail> {
         carve::LINES.as_slice(),
         check::LINES.as_slice(),
         contacts::LINES.as_slice(),
+        cover::LINES.as_slice(),
         moves::LINES.as_slice(),
         probe::LINES.as_slice(),
     ] {
@@ -113,7 +128,13 @@ fn words_of_no_command_are_refused(rt: HostRuntime) -> Result<(), Fail> {
             Err(WordsFault::Usage)
         )
     );
-    for line in ["", "Moves --code=c", "--code=c", "move --code=c", "cover"] {
+    for line in [
+        "",
+        "Moves --code=c",
+        "--code=c",
+        "move --code=c",
+        "covers --drawing=d --code=c --bit=1/2 --rmax=100",
+    ] {
         let read = read_line(rt.alloc(), line)?;
         assert!(rt; matches!(read, Err(WordsFault::Usage)), "{line}");
     }

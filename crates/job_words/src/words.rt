@@ -2,7 +2,7 @@
 ghost use Rattle.std.specs.Prelude.{◌≡◌, IfOk, Some, None, Err, map, string_bytes};
 ghost use Rattle.job_words.specs.Request.{request_of, IsInRange};
 
-use crate::commands::{carve, check, contacts, moves, probe};
+use crate::commands::{carve, check, contacts, cover, moves, probe};
 use crate::fault::WordsFault;
 use crate::request::Request;
 use std::alloc::Global;
@@ -31,6 +31,8 @@ pub fn read_words(alloc: Global, words: &[String]) -> Result<Request, WordsFault
         contacts::read(alloc, words)
     } else if name == "carve" {
         carve::read(alloc, words)
+    } else if name == "cover" {
+        cover::read(alloc, words)
     } else {
         Err(WordsFault::Usage)
     }

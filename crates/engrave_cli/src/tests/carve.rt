@@ -1,43 +1,48 @@
 // `carve`: small programs by their whole text, what `check` says of them, and refusals. The expected nodes follow from the definitions by
 // hand, or were computed in fractions by another program.
 
-use super::{ANGLE, NEVER, SQUARE, expect, run};
+use super::{ANGLE, GRID, NEVER, SQUARE, expect, run};
 use std::alloc::Global;
 use std::process::Abort;
 use std::test::Fail;
 
-const SMALL: &str = "0,0 4,0 4,4 0,4";
+/// A square of 4 grid units.
+pub const SMALL: &str = "0,0 4,0 4,4 0,4";
 
-const CARVED: &str =
+/// The square's program with a bit that fits into it, and its report of the points one grid unit apart.
+pub const CARVED: &str =
     "(bit 1/1 rmax 2 limit 32767 step 2)\nG21\nG90\nF500\nG0 Z2.00\nG0 X0.00 Y0.00\nG1 Z0.00\n\
     G1 X0.02 Y0.02 Z-0.02\nG1 X0.04 Y0.00 Z0.00\nG1 X0.02 Y0.02 Z-0.02\nG1 X0.04 Y0.04 Z0.00\n\
-    G1 X0.02 Y0.02 Z-0.02\nG1 X0.00 Y0.04 Z0.00\nG1 X0.02 Y0.02 Z-0.02\nG1 X0.00 Y0.00 Z0.00\nG0 Z2.00\nM2\n";
+    G1 X0.02 Y0.02 Z-0.02\nG1 X0.00 Y0.04 Z0.00\nG1 X0.02 Y0.02 Z-0.02\nG1 X0.00 Y0.00 Z0.00\nG0 Z2.00\n\
+    (uncut 0 of 9)\nM2\n";
 
 #[test]
 fn a_small_square_is_carved_line_by_line(rt: HostRuntime) -> Result<(), Fail> {
     for (words, text) in [
-        ("carve --drawing=d --bit=1/1 --rmax=2 --step=2", CARVED),
-        // A bit that is too narrow for the middle goes round it.
+        ("carve --drawing=d --bit=1/1 --rmax=2 --step=2 --pitch=1", CARVED),
+        // A bit that is too narrow for the middle goes round it, and leaves it.
         (
-            "carve --drawing=d --bit=1/1 --rmax=1 --step=2 --units=in1000 --safe=5 --feed=10000 --limit=9",
+            "carve --drawing=d --bit=1/1 --rmax=1 --step=2 --units=in1000 --safe=5 --feed=10000 --limit=9 --pitch=1",
             "(bit 1/1 rmax 1 limit 9 step 2)\nG20\nG90\nF10000\nG0 Z0.005\nG0 X0.000 Y0.000\nG1 Z0.000\n\
              G1 X0.002 Y0.001 Z-0.001\nG1 X0.004 Y0.000 Z0.000\nG1 X0.003 Y0.002 Z-0.001\n\
              G1 X0.004 Y0.004 Z0.000\nG1 X0.002 Y0.003 Z-0.001\nG1 X0.000 Y0.004 Z0.000\n\
-             G1 X0.001 Y0.002 Z-0.001\nG1 X0.000 Y0.000 Z0.000\nG0 Z0.005\nM2\n",
+             G1 X0.001 Y0.002 Z-0.001\nG1 X0.000 Y0.000 Z0.000\nG0 Z0.005\n\
+             (uncut y 2 x 2 to 2)\n(uncut 1 of 9)\nM2\n",
         ),
         // At the corners alone nothing is cut: five chains at the surface.
         (
-            "carve --drawing=d --bit=1/1 --rmax=2 --step=4",
+            "carve --drawing=d --bit=1/1 --rmax=2 --step=4 --pitch=2",
             "(bit 1/1 rmax 2 limit 32767 step 4)\nG21\nG90\nF500\nG0 Z2.00\n\
              G0 X0.00 Y0.00\nG1 Z0.00\nG0 Z2.00\nG0 X0.00 Y0.00\nG1 Z0.00\nG0 Z2.00\n\
              G0 X0.04 Y0.00\nG1 Z0.00\nG0 Z2.00\nG0 X0.04 Y0.04\nG1 Z0.00\nG0 Z2.00\n\
-             G0 X0.00 Y0.04\nG1 Z0.00\nG0 Z2.00\nM2\n",
+             G0 X0.00 Y0.04\nG1 Z0.00\nG0 Z2.00\n\
+             (uncut y 2 x 2 to 2)\n(uncut 1 of 1)\nM2\n",
         ),
     ] {
         expect(&rt, rt.alloc(), words, (SMALL, ""), (0, text))?;
     }
     let words = "carve --drawing=d --bit=1/1 --rmax=2 --step=2";
-    let nothing = "(bit 1/1 rmax 2 limit 32767 step 2)\nG21\nG90\nF500\nG0 Z2.00\nM2\n";
+    let nothing = "(bit 1/1 rmax 2 limit 32767 step 2)\nG21\nG90\nF500\nG0 Z2.00\n(uncut 0 of 0)\nM2\n";
     expect(&rt, rt.alloc(), words, ("", ""), (0, nothing))
 }
 
@@ -97,10 +102,22 @@ fn carving_is_refused_in_its_order(rt: HostRuntime) -> Result<(), Fail> {
             3,
         ),
         (
-            "carve --drawing=d --bit=1/1 --rmax=1 --step=5 --pitch=10",
+            "carve --drawing=d --bit=1/1 --rmax=1 --step=5 --pitch=0",
             ANGLE,
             "usage\n",
             2,
+        ),
+        (
+            "carve --drawing=d --bit=1/1 --rmax=1 --step=32767 --pitch=1",
+            GRID,
+            "input too many points\n",
+            3,
+        ),
+        (
+            "carve --drawing=d --bit=1/1 --rmax=1 --step=7 --pitch=1",
+            GRID,
+            "input step too fine 0\n",
+            3,
         ),
     ] {
         expect(&rt, rt.alloc(), words, (drawing, ""), (want, line))?;
@@ -123,8 +140,8 @@ fn squares(alloc: Global, small: u32) -> Result<String, Fail> {
 
 #[test]
 fn there_may_be_so_many_chains_and_no_more(rt: HostRuntime) -> Result<(), Fail> {
-    let words = "carve --drawing=d --bit=2/1 --rmax=1 --step=4";
-    // 4 * 32,753 + 12 * 5 are 131,072 chains.
+    let words = "carve --drawing=d --bit=2/1 --rmax=1 --step=4 --pitch=32767";
+    // 4 * 32,753 + 12 * 5 are 131,072 chains. Of the report's four points one is inside, and it is left.
     let most = squares(rt.alloc(), 12)?;
     let (status, text) = run(
         rt.alloc(),
@@ -135,7 +152,7 @@ fn there_may_be_so_many_chains_and_no_more(rt: HostRuntime) -> Result<(), Fail> 
     )?;
     assert_eq!(rt;
         (status, text.as_str().lines().count()),
-        (0, 5 + 3 * 131_072 + 1)
+        (0, 5 + 3 * 131_072 + 3)
     );
     // A loop of two points has three: 4 * 32,753 + 11 * 5 + 2 * 3 are one chain more.
     let mut more = squares(rt.alloc(), 11)?;

@@ -1,6 +1,6 @@
 // Refusals: each by its line and status, and in their order.
 
-use super::{FIRST, expect};
+use super::{FIRST, GRID, expect};
 use std::test::Fail;
 
 #[test]
@@ -37,6 +37,30 @@ fn refusals_are_reported_by_their_line_and_status(rt: HostRuntime) -> Result<(),
             "",
             "absent code\n",
             4,
+        ),
+        (
+            "cover --drawing=e --code=f --bit=1/1 --rmax=1",
+            "",
+            "absent drawing\n",
+            4,
+        ),
+        (
+            "cover --drawing=d --code=f --bit=1/1 --rmax=1 --pitch=1",
+            GRID,
+            "absent code\n",
+            4,
+        ),
+        (
+            "cover --drawing=d --code=c --bit=1/1 --rmax=1 --pitch=1",
+            GRID,
+            "input too many points\n",
+            3,
+        ),
+        (
+            "cover --drawing=d --code=c --bit=1/1 --rmax=1 --pitch=32768",
+            "",
+            "usage\n",
+            2,
         ),
         (
             "probe --drawing=d --at=5,5 --bit=1/1 --rmax=1 --limit=0",

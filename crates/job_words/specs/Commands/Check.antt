@@ -1,6 +1,5 @@
 -- `check`: whether a G-code program stays within a drawing.
 use Rattle.std.specs.Prelude.{ℕ, Option, Some, None, List, [], ◌∷◌, codes}
-use Rattle.plane_exact.specs.Cone.{IsCone}
 use Rattle.job_words.specs.Options.{OptionRow}
 use Rattle.job_words.specs.Command.{Command, needed, optional}
 use Rattle.job_words.specs.Shape.{shape_of}

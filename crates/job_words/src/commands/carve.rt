@@ -7,15 +7,17 @@ ghost use Rattle.job_words.specs.Request.{IsInRange, command_request};
 
 use crate::fault::WordsFault;
 use crate::found::{
-    BIT, DRAWING, FEED, FORM, LIMIT, RMAX, SAFE, STEP, UNITS, bit_in, feed_in, limit_in, rmax_in,
-    safe_in, shape_in, step_in,
+    BIT, DRAWING, FEED, FORM, LIMIT, PITCH, RMAX, SAFE, STEP, UNITS, bit_in, feed_in, limit_in,
+    pitch_in, rmax_in, safe_in, shape_in, step_in,
 };
 use crate::options::{CommandOption, match_words};
 use crate::request::Request;
 use clap::ArgMatches;
 use std::alloc::Global;
 
-static OPTIONS: [CommandOption; 9] = [BIT, RMAX, STEP, LIMIT, SAFE, FEED, DRAWING, FORM, UNITS];
+static OPTIONS: [CommandOption; 10] = [
+    BIT, RMAX, STEP, LIMIT, SAFE, FEED, PITCH, DRAWING, FORM, UNITS,
+];
 
 #[tactic(auto, unfolding(crate::specs::Commands::Carve::carve_options))]
 fn options() -> &'static [CommandOption]
@@ -47,6 +49,7 @@ fn read_values(alloc: Global, found: &ArgMatches) -> Result<Request, WordsFault>
     let limit = limit_in(found).ok_or(WordsFault::Usage)?;
     let safe = safe_in(found).ok_or(WordsFault::Usage)?;
     let feed = feed_in(found).ok_or(WordsFault::Usage)?;
+    let pitch = pitch_in(found).ok_or(WordsFault::Usage)?;
     let shape = shape_in(alloc, found)?;
     Ok(Request::Carve {
         shape,
@@ -56,5 +59,6 @@ fn read_values(alloc: Global, found: &ArgMatches) -> Result<Request, WordsFault>
         limit,
         safe,
         feed,
+        pitch,
     })
 }

@@ -1,6 +1,5 @@
 -- Answers the goals of `write_path`.
 use Rattle.std.proofs.Common.{rules}
-use Rattle.gcode_text.proofs.Chains.{read_back}
 use Rattle.gcode_text.proofs.Growing.{path_written}
 use Rattle.gcode_text.proofs.writer.write_path.Goals as goal
 
@@ -8,6 +7,3 @@ pub returns-clause-text : goal.returns-clause-text
 returns-clause-text c =
     path_written c.args.job.now c.args.chains.now _ _ _ _ (c.in_ok-note_of.ensures) (search rules)
     c.in_ok-write_setup.ensures c.in_ok-write_chains.ensures.text
-
-pub returns-clause-read_back : goal.returns-clause-read_back
-returns-clause-read_back c within = read_back c.args.job.now c.args.chains.now c.requires c.in_ok-write_chains.ensures.range within

@@ -1,0 +1,79 @@
+-- The report of a program: each of its lines is read as a note, and its text is that of notes.
+use Rattle.std.specs.Prelude.{codes, flat_map, map}
+use Rattle.std.proofs.Common.{◌≡◌, ℕ, ◌/◌, ◌≤◌, ◌^◌, suc, List, [], ◌∷◌, ◌++◌, ℤ, pos, negsuc, sym, ap, ◌∙◌, refl, arith, append_assoc}
+use Rattle.std.specs.List.{All}
+use Rattle.std.proofs.lemmas.List.Elements.{All-map, All-push, All-weaker}
+use Rattle.grid_num.specs.Written.{decimal_text}
+use Rattle.plane_exact.specs.Nodes.{GridNode}
+use Rattle.plane_exact.specs.Uncut.{GridRun, IsRun, UncutPoints}
+use Rattle.gcode_text.specs.Path.{closing_text, end_line, path_text, program_text}
+use Rattle.gcode_text.specs.Report.{IsReport, count_line, lines_between, report_lines, run_line}
+use Rattle.gcode_text.specs.Written.{Note, IsNote, code_text, is_note_byte}
+use Rattle.gcode_text.specs.declared.job.Job.{Job}
+use Rattle.gcode_text.proofs.Growing.{code_text-append}
+use Rattle.gcode_text.proofs.Readable.{AreBytes, joined, noted}
+
+-- ---- its notes
+
+-- a number of a note, with its sign
+signed : (v : ℤ) → AreBytes is_note_byte 65 (decimal_text 0 v)
+signed (pos n) =
+    let nothing : AreBytes is_note_byte 1 [] = record { each = refl; short = omega arith } in
+    joined (noted (n / 10 ^ 0)) nothing
+signed (negsuc n) =
+    let minus : AreBytes is_note_byte 1 (45 ∷ []) = record { each = refl; short = omega arith } in
+    let nothing : AreBytes is_note_byte 0 [] = record { each = refl; short = omega arith } in
+    joined minus (joined (noted (suc n / 10 ^ 0)) nothing)
+
+is_note : {most : ℕ} {note : List ℕ} → AreBytes is_note_byte most note → most ≤ 1000 → IsNote note
+is_note bytes few =
+    let short = bytes.short in
+    record { bytes = bytes.each; short = omega arith }
+
+run_noted : (run : GridRun) → IsNote (run_line run)
+unfolding run_line
+run_noted run =
+    let row : AreBytes is_note_byte 8 (codes "uncut y ") = record { each = refl; short = omega arith } in
+    let from : AreBytes is_note_byte 3 (codes " x ") = record { each = refl; short = omega arith } in
+    let to : AreBytes is_note_byte 4 (codes " to ") = record { each = refl; short = omega arith } in
+    is_note (joined row (joined (signed run.y) (joined from (joined (signed run.x0) (joined to (signed run.x1)))))) (omega arith)
+
+count_noted : (uncut : UncutPoints) → IsNote (count_line uncut)
+unfolding count_line
+count_noted uncut =
+    let left : AreBytes is_note_byte 6 (codes "uncut ") = record { each = refl; short = omega arith } in
+    let of : AreBytes is_note_byte 4 (codes " of ") = record { each = refl; short = omega arith } in
+    is_note (joined left (joined (noted uncut.left) (joined of (noted uncut.drawing)))) (omega arith)
+
+-- each line of a report is read as a note
+pub report_noted : (uncut : UncutPoints) → IsReport uncut → All IsNote (report_lines uncut)
+report_noted uncut is =
+    All-push IsNote (map run_line uncut.runs) (count_line uncut) (All-map IsNote run_line uncut.runs (All-weaker (λ run. IsRun run.y run.x0 run.x1) (λ run. IsNote (run_line run)) (λ run on. run_noted run) uncut.runs is.runs))
+    (count_noted uncut)
+
+-- ---- its text
+
+-- lines between brackets are notes
+notes_text : (lines : List (List ℕ)) → lines_between (codes "(") (codes ")\n") lines ≡ code_text (map Note lines)
+notes_text [] = refl
+notes_text (line ∷ lines) =
+    ap (λ text. (40 ∷ text) ++ lines_between (codes "(") (codes ")\n") lines) (sym (append_assoc line (41 ∷ []) (10 ∷ [])))
+    ∙ ap (λ text. (40 ∷ ((line ++ 41 ∷ []) ++ 10 ∷ [])) ++ text) (notes_text lines)
+
+-- the text of the runs, one after the other
+pub runs_text : (before behind : List ℕ) (runs : List GridRun) → flat_map (λ run. before ++ (run_line run ++ behind)) runs ≡ lines_between before behind (map run_line runs)
+runs_text before behind [] = refl
+runs_text before behind (run ∷ runs) = ap (λ text. (before ++ (run_line run ++ behind)) ++ text) (runs_text before behind runs)
+
+-- the text of the path, the report and the end is that of the program
+pub program_written : (job : Job) (chains : List (List GridNode)) (uncut : UncutPoints) (path reported whole : List ℕ) → path ≡ path_text job chains
+    → reported ≡ path ++ lines_between (codes "(") (codes ")\n") (report_lines uncut) → whole ≡ reported ++ code_text (end_line ∷ []) → whole ≡ program_text job chains uncut
+unfolding closing_text
+program_written job chains uncut path reported whole path_is reported_is whole_is =
+    let end = code_text (end_line ∷ []) in
+    let notes = lines_between (codes "(") (codes ")\n") (report_lines uncut) in
+    whole_is
+    ∙ ap (λ text. text ++ end) (reported_is ∙ ap (λ text. text ++ notes) path_is)
+    ∙ append_assoc (path_text job chains) notes end
+    ∙ ap (λ text. path_text job chains ++ (text ++ end)) (notes_text (report_lines uncut))
+    ∙ ap (λ text. path_text job chains ++ text) (sym (code_text-append (map Note (report_lines uncut)) (end_line ∷ [])))
