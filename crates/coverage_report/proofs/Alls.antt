@@ -1,6 +1,6 @@
 -- Lists of all points of which something is so, in the order of a report.
-use Rattle.std.specs.Prelude.{List, [], ◌∷◌, ◌++◌, All, AllPairs, Contains, slice_index_or}
-use Rattle.std.proofs.Common.{◌≡◌, ◌⊎◌, ℕ, zero, suc, ◌<◌, length, sym, inl, inr, arith}
+use Rattle.std.specs.Prelude.{List, [], ◌∷◌, ◌++◌, All, AllPairs, Contains}
+use Rattle.std.proofs.Common.{◌≡◌, ◌⊎◌, zero, suc, sym, inl, inr, arith}
 use Rattle.std.proofs.lemmas.List.Elements.{All-append, All-cons, All-head, All-nil, All-tail, All-weaker, Contains-append_left, Contains-append_right}
 use Rattle.std.proofs.lemmas.List.Kept.{AllPairs-cons}
 use Rattle.plane_exact.specs.Plane.{GridPoint}
@@ -46,5 +46,5 @@ module _ (P Q : GridPoint → Type 0) (points : List GridPoint) (all : AreAll P 
     each = All-append Q points more (All-weaker P Q there points all.each) (All-weaker M Q there' more others.each);
     complete = λ p so. elim (back p so) [ inl low ↦ Contains-append_left points more p (all.complete p low) | inr high ↦ Contains-append_right points more p (others.complete p high) ];
     ordered = pairs_joined IsBefore more points all.ordered others.ordered
-    (All-weaker P (λ p. All (IsBefore p) more) (λ p low. All-weaker M (IsBefore p) (λ q high. before p q low high) more others.each) points all.each);
+        (All-weaker P (λ p. All (IsBefore p) more) (λ p low. All-weaker M (IsBefore p) (λ q high. before p q low high) more others.each) points all.each);
   }

@@ -5,7 +5,7 @@ use Rattle.std.proofs.lemmas.Int.{ints}
 use Rattle.std.proofs.lemmas.List.Elements.{All-head, All-tail}
 use Rattle.plane_exact.specs.Plane.{GridPoint}
 use Rattle.plane_exact.specs.Uncut.{GridRun}
-use Rattle.coverage_report.specs.Runs.{AreMaximal, AreRunsOf, IsContinued}
+use Rattle.coverage_report.specs.Runs.{AreMaximal, AreRunsOf}
 
 module _ (pitch : ℕ) (later : List GridRun) where
   pub runs_joined : (runs : List GridRun) (points more : List GridPoint) → AreRunsOf pitch runs points → AreRunsOf pitch later more

@@ -1,7 +1,7 @@
 -- The points of a lattice, row by row.
 use mir.Syntax.{w64}
 use Rattle.std.specs.Prelude.{List, [], ◌++◌, ℤ, pos, ◌+ℤ◌, ◌<ℤ◌}
-use Rattle.std.proofs.Common.{◌≡◌, ◌⊎◌, ℕ, zero, suc, ◌+◌, ◌-◌, ◌*◌, ◌<◌, ◌≤◌, Fits, length, refl, ap, ap₂, subst, sym, ◌∙◌, inl, inr, arith, mul-le-mul, mul-le-mul_left, mul-le-mul_right, length-append}
+use Rattle.std.proofs.Common.{◌≡◌, ◌⊎◌, ℕ, zero, suc, ◌+◌, ◌-◌, ◌*◌, ◌<◌, ◌≤◌, Fits, length, refl, ap, subst, inl, inr, arith, mul-le-mul, mul-le-mul_left, mul-le-mul_right, length-append}
 use Rattle.std.proofs.lemmas.Bool.{cases_lt}
 use Rattle.std.proofs.lemmas.Int.{ints}
 use Rattle.plane_exact.specs.Plane.{GridPoint, IsCoordinate}

@@ -1,13 +1,11 @@
 -- The lattice of the points of a box, and of a report.
-use Rattle.std.specs.Prelude.{◌↔◌, List, [], ◌∷◌, ℤ, pos, ◌+ℤ◌, ◌≤ℤ◌, slice_index_or}
-use Rattle.std.proofs.Common.{◌≡◌, ℕ, ◌<◌, ◌≤◌, length, refl, ap, ap₂, subst, sym, arith}
+use Rattle.std.specs.Prelude.{◌↔◌, List, slice_index_or}
+use Rattle.std.proofs.Common.{◌≡◌, ℕ, ◌<◌, ◌≤◌, length, refl, ap, ap₂, subst, arith}
 use Rattle.std.proofs.lemmas.Int.{ints}
-use Rattle.std.proofs.lemmas.List.{get_or_default}
 use Rattle.plane_exact.specs.Plane.{GridPoint, IsOnGrid}
 use Rattle.evenodd_region.specs.Bounds.{IsBoxOf, IsInBox, points_of}
-use Rattle.evenodd_region.specs.RowBits.{point_of_row}
-use Rattle.coverage_report.specs.Lattices.{AreTicks, IsBoxPoint, IsInRow, IsInRows, IsLatticeIn, IsLatticeOf, IsPointLattice, PointLattice, row_at}
-use Rattle.coverage_report.specs.Points.{IsMultiple, IsReportPoint}
+use Rattle.coverage_report.specs.Lattices.{AreTicks, IsBoxPoint, IsInRows, IsLatticeIn, IsLatticeOf, IsPointLattice, PointLattice}
+use Rattle.coverage_report.specs.Points.{IsReportPoint}
 use Rattle.coverage_report.proofs.Ticks.{IsTick, first_on, last_on, tick_above, tick_multiple, tick_of, tick_under}
 
 -- ---- of a box
@@ -20,7 +18,8 @@ module _ (low high : GridPoint) (lattice : PointLattice) (apart : 1 ≤ lattice.
       let column = tick_of lattice.pitch apart low.x high.x lattice.x lattice.columns across p.x of.across within.across.low within.across.high in
       let row = tick_of lattice.pitch apart low.y high.y lattice.y lattice.rows up p.y of.up within.up.low within.up.high in
       record {
-        number = row.number; below = row.below;
+        number = row.number;
+        below = row.below;
         on = record { number = column.number; below = column.below; is = ap₂ (λ x y. record { x = x; y = y }) column.is row.is };
       }
 
@@ -46,7 +45,9 @@ module _ (low high : GridPoint) (lattice : PointLattice) (apart : 1 ≤ lattice.
 
   pub lattice_is : IsOnGrid low.x low.y → IsOnGrid high.x high.y → IsPointLattice lattice
   lattice_is low_on high_on = record {
-    some_columns = across.some; some_rows = up.some; apart = apart;
+    some_columns = across.some;
+    some_rows = up.some;
+    apart = apart;
     left = first_on low.x high.x lattice.x lattice.pitch lattice.columns low_on.across high_on.across across;
     right = last_on low.x high.x lattice.x lattice.pitch lattice.columns low_on.across high_on.across across;
     bottom = first_on low.y high.y lattice.y lattice.pitch lattice.rows low_on.up high_on.up up;
@@ -95,7 +96,3 @@ module _ (loops : List (List GridPoint)) (pitch : ℕ) where
 
   pub none_of_box : (low high : GridPoint) → IsBoxOf (points_of loops) low high → ((p : GridPoint) → ¬ IsBoxPoint low high pitch p) → (p : GridPoint) → ¬ IsReportPoint loops pitch p
   none_of_box low high box none p of = none p ((report_point low high box p).0 of)
-
-  -- a drawing of no point has no box
-  pub none_of_nothing : points_of loops ≡ [] → (p : GridPoint) → ¬ IsReportPoint loops pitch p
-  none_of_nothing nothing p of = let side = of.box.left in let below = side.2 in let none = ap length nothing in absurd (omega arith)

@@ -1,6 +1,6 @@
 -- The report of what is told of all rows of a lattice, and of nothing.
 use Rattle.std.specs.Prelude.{List, []}
-use Rattle.std.proofs.Common.{◌≡◌, ℕ, ◌*◌, ◌<◌, ◌≤◌, refl, subst, sym, arith}
+use Rattle.std.proofs.Common.{ℕ, ◌*◌, ◌<◌, ◌≤◌, refl, subst, arith}
 use Rattle.plane_exact.specs.Cone.{Cone}
 use Rattle.plane_exact.specs.Plane.{GridPoint, rational}
 use Rattle.plane_exact.specs.Uncut.{GridRun}
@@ -8,8 +8,8 @@ use Rattle.plane_exact.specs.declared.moves.LineMove.{LineMove}
 use Rattle.engrave_model.specs.Drawing.{edges_of}
 use Rattle.engrave_model.specs.Inside.{IsInside}
 use Rattle.coverage_report.specs.Lattices.{IsInRows, IsLatticeOf, PointLattice}
-use Rattle.coverage_report.specs.Points.{AreAll, IsCount, IsDrawingPoint, IsReportPoint, IsUncutPoint}
-use Rattle.coverage_report.specs.Report.{HasFewPoints, HasManyPoints, IsReportOn}
+use Rattle.coverage_report.specs.Points.{IsCount, IsDrawingPoint, IsReportPoint, IsUncutPoint}
+use Rattle.coverage_report.specs.Report.{HasManyPoints, IsReportOn}
 use Rattle.coverage_report.specs.Runs.{AreMaximal, AreRunsOf}
 use Rattle.coverage_report.specs.Taken.{AreRowsTaken, IsAmong, IsLeft}
 use Rattle.coverage_report.specs.declared.cover.TheConstants.{MOST_POINTS}
@@ -24,7 +24,9 @@ module _ (loops : List (List GridPoint)) (pitch : ℕ) where
     few = record { count = 0; is = record { points = []; all = none_all (IsReportPoint loops pitch) none; counted = refl }; few = omega arith };
     points = [];
     all = none_all (IsUncutPoint loops cone moves pitch) (λ p of. none p of.drawn.reported);
-    runs = refl; maximal = tt; left = refl;
+    runs = refl;
+    maximal = tt;
+    left = refl;
     drawing = record { points = []; all = none_all (IsDrawingPoint loops pitch) (λ p of. none p of.reported); counted = refl };
   }
 
@@ -48,16 +50,16 @@ module _ (loops : List (List GridPoint)) (pitch : ℕ) where
           few = record { count = lattice.rows * lattice.columns; is = report_count; few = few };
           points = taken.points;
           all = same_all (IsAmong lattice lattice.rows (IsLeft (edges_of loops) cone moves)) (IsUncutPoint loops cone moves pitch) taken.points taken.all_left.all
-          (λ p among. record { drawn = record { reported = (is.points p).1 among.on; inside = among.so.inside }; spared = among.so.spared })
-          (λ p of. record { so = record { inside = of.drawn.inside; spared = of.spared }; on = (is.points p).0 of.drawn.reported });
+              (λ p among. record { drawn = record { reported = (is.points p).1 among.on; inside = among.so.inside }; spared = among.so.spared })
+              (λ p of. record { so = record { inside = of.drawn.inside; spared = of.spared }; on = (is.points p).0 of.drawn.reported });
           runs = subst (λ pitch. AreRunsOf pitch runs taken.points) is.same taken.in_runs;
           maximal = subst (λ pitch. AreMaximal pitch runs) is.same taken.maximal;
           left = taken.all_left.counted;
           drawing = record {
             points = taken.drawn;
             all = same_all (IsAmong lattice lattice.rows Inside) (IsDrawingPoint loops pitch) taken.drawn taken.all_drawn.all
-            (λ p among. record { reported = (is.points p).1 among.on; inside = among.so })
-            (λ p of. record { so = of.inside; on = (is.points p).0 of.reported });
+                (λ p among. record { reported = (is.points p).1 among.on; inside = among.so })
+                (λ p of. record { so = of.inside; on = (is.points p).0 of.reported });
             counted = taken.all_drawn.counted;
           };
         }

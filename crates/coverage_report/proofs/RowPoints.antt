@@ -1,11 +1,11 @@
 -- The points of a row, and those of them whose bits are 1.
-use Rattle.std.specs.Prelude.{◌↔◌, List, [], ◌∷◌, ◌==◌, if◌then◌else◌, ℤ, pos, ◌+ℤ◌, ◌<ℤ◌}
-use Rattle.std.proofs.Common.{◌≡◌, ◌⊎◌, ℕ, zero, suc, ◌+◌, ◌*◌, ◌<◌, ◌≤◌, Bool, true, false, length, refl, ap, subst, sym, ◌∙◌, inl, inr, arith, mul-le-mul_right}
+use Rattle.std.specs.Prelude.{◌↔◌, List, [], ◌∷◌, ℤ, pos, ◌+ℤ◌}
+use Rattle.std.proofs.Common.{◌≡◌, ℕ, zero, suc, ◌+◌, ◌*◌, ◌<◌, ◌≤◌, true, false, length, refl, ap, subst, sym, ◌∙◌, inl, inr, arith, mul-le-mul_right}
 use Rattle.std.proofs.lemmas.Bool.{cases_eq, cond_both}
 use Rattle.std.proofs.lemmas.Bool.Decides.{nat_tests}
 use Rattle.std.proofs.lemmas.Int.{ints}
 use Rattle.plane_exact.specs.Plane.{GridPoint}
-use Rattle.evenodd_region.specs.RowBits.{IsSetIn, bit_in, point_of_row}
+use Rattle.evenodd_region.specs.RowBits.{IsSetIn, point_of_row}
 use Rattle.coverage_report.specs.Lattices.{IsInRow}
 use Rattle.coverage_report.specs.Points.{AreAll, IsBefore}
 use Rattle.coverage_report.specs.Rows.{PointRow, is_set_in, points_of_row, set_among, set_points}
@@ -94,7 +94,9 @@ module _ (row : PointRow) (apart : 1 ≤ row.pitch) where
         on = record { number = from.number; below = both.0; is = from.is };
       })
       (λ p of. let on = of.on in record {
-        number = on.number; low = omega arith; high = (let below = on.below in omega arith);
+        number = on.number;
+        low = omega arith;
+        high = (let below = on.below in omega arith);
         so = (bits on.number).1 (on.below, subst IsSo on.is of.so);
         is = on.is;
       })

@@ -1,10 +1,10 @@
 -- The bits of a row whose points no move removes, point by point.
 use Rattle.std.specs.Prelude.{◌↔◌, ◌==◌, Any, List, if◌then◌else◌}
-use Rattle.std.proofs.Common.{◌≡◌, ◌⊎◌, ℕ, ◌+◌, ◌<◌, ◌≤◌, Bool, true, false, refl, ap, subst, sym, ◌∙◌, inl, inr, arith}
+use Rattle.std.proofs.Common.{◌≡◌, ℕ, ◌+◌, ◌<◌, ◌≤◌, true, false, ap, subst, sym, ◌∙◌, inl, inr, arith}
 use Rattle.std.proofs.lemmas.Bool.{cases_eq}
 use Rattle.std.proofs.lemmas.Bool.Decides.{nat_tests}
 use Rattle.plane_exact.specs.Cone.{Cone}
-use Rattle.plane_exact.specs.Plane.{GridPoint, rational}
+use Rattle.plane_exact.specs.Plane.{rational}
 use Rattle.plane_exact.specs.declared.moves.LineMove.{LineMove}
 use Rattle.engrave_model.specs.Removal.{Removes}
 use Rattle.evenodd_region.specs.RowBits.{IsCleared, IsSetIn, bit_in, point_of_row}
@@ -33,11 +33,13 @@ module _ (cone : Cone) (moves : List LineMove) (row : PointRow) where
     kept_at spared = record {
       bits = λ i. (
         (λ set.
-            let was = (are.bits i).0 set in
-            (was.0, λ below. elim (cases_eq i k) [
-              | inl same ↦ subst (λ j. IsSpared cone moves (point_of_row row.y row.x row.pitch j)) (sym same) (spared (subst (IsSetIn words) same set))
-              | inr other ↦ was.1 (omega arith)
-            ])),
+            let was = (are.bits i).0 set in (
+              was.0,
+              λ below. elim (cases_eq i k) [
+                | inl same ↦ subst (λ j. IsSpared cone moves (point_of_row row.y row.x row.pitch j)) (sym same) (spared (subst (IsSetIn words) same set))
+                | inr other ↦ was.1 (omega arith)
+              ],
+            )),
         (λ both. (are.bits i).1 (both.0, λ below. both.1 (omega arith))),
       );
     }

@@ -1,6 +1,6 @@
 -- The rows of a lattice are told one after the other.
-use Rattle.std.specs.Prelude.{◌↔◌, List, [], ◌∷◌, ◌++◌, All, ℤ, pos, ◌+ℤ◌, ◌<ℤ◌}
-use Rattle.std.proofs.Common.{◌≡◌, ℕ, ◌+◌, ◌*◌, ◌<◌, ◌≤◌, length, refl, ap, subst, sym, ◌∙◌, arith}
+use Rattle.std.specs.Prelude.{◌↔◌, List, [], ◌++◌, ◌<ℤ◌}
+use Rattle.std.proofs.Common.{◌≡◌, ℕ, ◌+◌, ◌<◌, ◌≤◌, refl, subst, sym, arith}
 use Rattle.std.proofs.lemmas.Int.{ints}
 use Rattle.std.proofs.lemmas.List.Elements.{All-append, All-nil, All-weaker}
 use Rattle.plane_exact.specs.Cone.{Cone}
@@ -21,9 +21,13 @@ module _ (edges : List Seg) (cone : Cone) (moves : List LineMove) (lattice : Poi
   -- no row yet
   pub none_taken : AreRowsTaken edges cone moves lattice 0 [] 0 0
   none_taken = record {
-    drawn = []; all_drawn = none_counted lattice apart (λ p. IsInside edges (rational p));
-    points = []; all_left = none_counted lattice apart (IsLeft edges cone moves);
-    in_runs = refl; maximal = tt; lower = All-nil (λ run. run.y <ℤ (row_at lattice 0).y);
+    drawn = [];
+    all_drawn = none_counted lattice apart (λ p. IsInside edges (rational p));
+    points = [];
+    all_left = none_counted lattice apart (IsLeft edges cone moves);
+    in_runs = refl;
+    maximal = tt;
+    lower = All-nil (λ run. run.y <ℤ (row_at lattice 0).y);
   }
 
   module _ (k : ℕ) (old new : List GridRun) (drawing left more_drawing more_left : ℕ) (row : IsRowTaken edges cone moves (row_at lattice k) old new more_drawing more_left) where
@@ -49,10 +53,10 @@ module _ (edges : List Seg) (cone : Cone) (moves : List LineMove) (lattice : Poi
         subst (λ runs. AreRowsTaken edges cone moves lattice (k + 1) runs (drawing + more_drawing) (left + more_left)) (sym row.pushed.pushed) (record {
           drawn = were.drawn ++ set_points row.inside this;
           all_drawn = row_counted lattice apart Inside k were.drawn (set_points row.inside this) drawing more_drawing were.all_drawn
-          (set_all this apart row.inside Inside row.are_inside.inside) row.counts_inside (few_set row.inside this);
+              (set_all this apart row.inside Inside row.are_inside.inside) row.counts_inside (few_set row.inside this);
           points = were.points ++ set_points row.spared this;
           all_left = row_counted lattice apart (IsLeft edges cone moves) k were.points (set_points row.spared this) left more_left were.all_left
-          (set_all this apart row.spared (IsLeft edges cone moves) left_bits) row.counts_spared (few_set row.spared this);
+              (set_all this apart row.spared (IsLeft edges cone moves) left_bits) row.counts_spared (few_set row.spared this);
           in_runs = runs_joined lattice.pitch added old were.points (set_points row.spared this) were.in_runs row.pushed.are;
           maximal = maximal_joined lattice.pitch added this.y row.pushed.of_row row.pushed.maximal old were.maximal were.lower;
           lower = lower;

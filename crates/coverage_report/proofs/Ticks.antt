@@ -1,6 +1,6 @@
 -- The multiples of a pitch in a range.
 use lib.IntN.{*ℤ_comm}
-use Rattle.std.specs.Prelude.{◌↔◌, ℤ, pos, negsuc, neg_ℤ, ◌+ℤ◌, ◌-ℤ◌, ◌*ℤ◌, ◌<ℤ◌, ◌≤ℤ◌}
+use Rattle.std.specs.Prelude.{ℤ, pos, negsuc, neg_ℤ, ◌+ℤ◌, ◌-ℤ◌, ◌*ℤ◌, ◌<ℤ◌, ◌≤ℤ◌}
 use Rattle.std.specs.Int.{int_rem_euclid}
 use Rattle.std.proofs.Common.{◌≡◌, ℕ, ◌+◌, ◌-◌, ◌*◌, ◌/◌, ◌%◌, ◌<◌, ◌≤◌, refl, ap, subst, sym, ◌∙◌, inl, inr, arith, mul-le-mul_right}
 use Rattle.std.proofs.lemmas.Bool.{cases_lt}
@@ -108,7 +108,9 @@ module _ (low : ℤ) (pitch : ℕ) (on : IsCoordinate low) (apart : 1 ≤ pitch)
       let m = raised.number in
       let m_is : neg_ℤ low +ℤ pos (32768 * pitch) ≡ pos m = (let is = raised.is in omega (arith, ints)) in
       record {
-        quotient = m / pitch; small = m % pitch; less = omega arith;
+        quotient = m / pitch;
+        small = m % pitch;
+        less = omega arith;
         rest_is = rest ∙ int_rem_euclid_is (neg_ℤ low) (pos pitch) pitch 32768 m (omega arith) refl m_is;
         sum = (let parts : m ≡ pitch * (m / pitch) + m % pitch = omega arith in omega (arith, ints));
       }

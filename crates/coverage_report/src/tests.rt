@@ -116,8 +116,19 @@ fn a_report_on_the_whole_grid_has_too_many_points(rt: HostRuntime) -> Result<(),
 
 #[test]
 fn points_are_multiples_of_the_pitch(rt: HostRuntime) -> Result<(), Fail> {
-    let report = uncut(rt.alloc(), &square(rt.alloc(), -15, 15)?, &cone()?, &[plunge(0, 0)?], 10)?;
-    assert!(rt; has_runs(&report, &[(-10, -10, 10), (0, -10, -10), (0, 10, 10), (10, -10, 10)]));
+    let report = uncut(
+        rt.alloc(),
+        &square(rt.alloc(), -15, 15)?,
+        &cone()?,
+        &[plunge(0, 0)?],
+        10,
+    )?;
+    assert!(rt;
+        has_runs(
+            &report,
+            &[(-10, -10, 10), (0, -10, -10), (0, 10, 10), (10, -10, 10)]
+        )
+    );
     assert_eq!(rt; (report.left, report.drawing), (8, 9));
     Ok(())
 }

@@ -1,5 +1,5 @@
 -- Answers the goals of `take_row`.
-use Rattle.std.proofs.Common.{◌≡◌, ap₂, arith, subst}
+use Rattle.std.proofs.Common.{◌≡◌, arith, subst}
 use Rattle.std.proofs.lemmas.Int.{ints}
 use Rattle.plane_exact.proofs.Stored.{narrow}
 use Rattle.engrave_model.specs.Drawing.{edges_of}

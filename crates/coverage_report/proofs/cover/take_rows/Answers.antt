@@ -1,8 +1,6 @@
 -- Answers the goals of `take_rows`.
-use Rattle.std.specs.Prelude.{[]}
-use Rattle.std.proofs.Common.{◌≡◌, ◌+◌, ◌<◌, ◌≤◌, ap, arith, subst, sym}
+use Rattle.std.proofs.Common.{◌≡◌, ap, arith, subst, sym}
 use Rattle.engrave_model.specs.Drawing.{edges_of}
-use Rattle.coverage_report.specs.Lattices.{row_at}
 use Rattle.coverage_report.specs.Rows.{PointRow}
 use Rattle.coverage_report.specs.Taken.{AreRowsTaken, IsRowTaken}
 use Rattle.coverage_report.proofs.LatticePoints.{sum_fits}
@@ -16,7 +14,7 @@ loop-k-init c =
     let lattice = c.args.lattice.now in record {
       words = (let len = c.in_ok-bits.ensures.len in let columns = c.columns.ensures.value in omega arith);
       taken = subst (λ runs. AreRowsTaken edges c.args.bit.now c.args.moves.now lattice 0 runs 0 0) (sym c.new-runs.ensures.items)
-      (none_taken edges c.args.bit.now c.args.moves.now lattice c.columns.ensures.range.apart);
+          (none_taken edges c.args.bit.now c.args.moves.now lattice c.columns.ensures.range.apart);
     }
 
 pub overflow_add-drawing : goal.overflow_add-drawing
@@ -50,7 +48,7 @@ loop-k-preserved c =
     record {
       words = c.loop-k.invariant.words;
       taken = row_taken edges c.args.bit.now c.args.moves.now lattice c.columns.ensures.range.apart c.loop-k.k c.loop-k.runs.items c.take_row.new.runs.items
-      c.loop-k.drawing c.loop-k.left counts.drawing counts.left row c.loop-k.invariant.taken;
+          c.loop-k.drawing c.loop-k.left counts.drawing counts.left row c.loop-k.invariant.taken;
     }
 
 pub returns : goal.returns

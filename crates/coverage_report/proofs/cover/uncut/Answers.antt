@@ -1,9 +1,8 @@
 -- Answers the goals of `uncut`.
 use Rattle.std.specs.Prelude.{List}
-use Rattle.std.proofs.Common.{◌≡◌, ◌*◌, ◌<◌, ◌≤◌, arith, subst, sym}
+use Rattle.std.proofs.Common.{arith, subst, sym}
 use Rattle.plane_exact.specs.Uncut.{GridRun}
 use Rattle.coverage_report.specs.Report.{IsReportOn}
-use Rattle.coverage_report.specs.declared.cover.TheConstants.{MOST_POINTS}
 use Rattle.coverage_report.proofs.Reports.{all_reported, many_points, nothing_reported}
 use Rattle.coverage_report.proofs.cover.uncut.Goals as goal
 

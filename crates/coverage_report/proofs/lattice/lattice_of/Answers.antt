@@ -18,8 +18,8 @@ returns-in_err-up c =
     subst (λ o. MatchOption o ((p : GridPoint) → ¬ IsBoxPoint low high c.args.pitch p) (λ lattice. IsLatticeIn low high c.args.pitch lattice))
     (sym c.from_residual-in_err-up.ensures)
     (λ p of.
-        let within = of.within.up in
-        c.in_err-up.ensures p.y of.up (subst (λ z. z ≤ℤ p.y) (sym bottom) within.low) (subst (λ z. p.y ≤ℤ z) (sym top) within.high))
+    let within = of.within.up in
+    c.in_err-up.ensures p.y of.up (subst (λ z. z ≤ℤ p.y) (sym bottom) within.low) (subst (λ z. p.y ≤ℤ z) (sym top) within.high))
 
 pub invariant_of-result : goal.invariant_of-result
 invariant_of-result c =

@@ -1,6 +1,6 @@
 -- Answers the goals of `ticks_between`.
 use Rattle.std.specs.Prelude.{unsigned_abs}
-use Rattle.std.proofs.Common.{◌≡◌, ◌+◌, ◌/◌, pos, ◌+ℤ◌, ◌-ℤ◌, ◌<ℤ◌, ◌≤ℤ◌, ap, arith, subst, sym}
+use Rattle.std.proofs.Common.{◌≡◌, ◌+◌, ◌/◌, pos, ◌+ℤ◌, ◌-ℤ◌, ◌<ℤ◌, ap, arith, subst, sym}
 use Rattle.std.proofs.lemmas.Int.{ints}
 use Rattle.plane_exact.proofs.Stored.{narrow}
 use Rattle.coverage_report.specs.Lattices.{AreTicks}

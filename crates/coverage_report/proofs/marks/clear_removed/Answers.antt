@@ -1,6 +1,6 @@
 -- Answers the goals of `clear_removed`.
 use Rattle.std.specs.Prelude.{Any, ◌==◌}
-use Rattle.std.proofs.Common.{◌≡◌, ◌+◌, ◌≤◌, ap, arith, refl, subst, sym, ◌∙◌}
+use Rattle.std.proofs.Common.{◌+◌, ◌≤◌, ap, arith, refl, subst, sym, ◌∙◌}
 use Rattle.std.proofs.lemmas.Bool.{false≢true}
 use Rattle.plane_exact.specs.Plane.{GridPoint, rational}
 use Rattle.engrave_model.specs.Removal.{Removes}

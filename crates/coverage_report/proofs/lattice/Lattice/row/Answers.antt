@@ -1,7 +1,7 @@
 -- Answers the goals of `Lattice::row`.
 use mir.Syntax.{w32}
 use mir.Val.{to_z}
-use Rattle.std.proofs.Common.{arith, ◌≡◌, ◌*◌, ◌<◌, ℕ, pos, ◌+ℤ◌, ap, ap₂, subst, sym, ◌∙◌}
+use Rattle.std.proofs.Common.{arith, ◌≡◌, ◌*◌, ◌<◌, ℕ, ◌+ℤ◌, ap, ap₂, subst, sym, ◌∙◌}
 use Rattle.std.proofs.lemmas.Int.{ints}
 use Rattle.plane_exact.proofs.Stored.{narrow}
 use Rattle.coverage_report.specs.Lattices.{IsPointLattice, PointLattice, row_at}
@@ -24,9 +24,11 @@ module _ (lattice : PointLattice) (are : IsPointLattice lattice) (k : ℕ) (belo
 
   row_is : IsPointRow stored
   row_is = subst IsPointRow (sym stored_is) (record {
-    some = are.some_columns; apart = are.apart;
+    some = are.some_columns;
+    apart = are.apart;
     up = place_on lattice.y lattice.pitch lattice.rows are.bottom are.top k below;
-    first = are.left; last = are.right;
+    first = are.left;
+    last = are.right;
   })
 
 pub invariant_of-result : goal.invariant_of-result

@@ -1,8 +1,8 @@
 -- Answers the goals of `Row::point`.
-use mir.Syntax.{w32, w64}
-use mir.Val.{to_z, of_z}
+use mir.Syntax.{w32}
+use mir.Val.{to_z}
 use Rattle.std.specs.Prelude.{IfSome}
-use Rattle.std.proofs.Common.{arith, ◌≡◌, ◌*◌, ◌<◌, ◌≤◌, ℕ, pos, ◌+ℤ◌, ℤ, ap, ap₂, subst, sym, ◌∙◌}
+use Rattle.std.proofs.Common.{arith, ◌≡◌, ◌*◌, ◌<◌, ℕ, pos, ◌+ℤ◌, ℤ, ap, ap₂, subst, sym, ◌∙◌}
 use Rattle.std.proofs.lemmas.Int.{ints}
 use Rattle.plane_exact.specs.Plane.{GridPoint, IsCoordinate, IsOnGrid}
 use Rattle.plane_exact.proofs.Stored.{wide, narrow}
