@@ -197,6 +197,19 @@ def step(rng, edges):
     return rng.choice([1, 1, 2, 3, rng.randint(1, 40)] if longest < 1000 else [1, 2, 500, rng.randint(100, MOST)])
 
 
+# how many points a report has at most
+MOST_REPORTED = 120
+
+
+def pitch(rng, loops):
+    """A distance of the points of a report that gives few of them, sometimes one beyond the drawing."""
+    xs, ys = zip(*(p for loop in loops for p in loop)) if loops else ((0,), (0,))
+    longest = max(max(xs) - min(xs), max(ys) - min(ys), 1)
+    pitches = [1, 2, 3, 5, 10, rng.randint(1, 40), longest // 9, longest // 5, longest // 2, longest]
+    few = [p for p in pitches if p > 0 and (max(xs) - min(xs) + p) * (max(ys) - min(ys) + p) <= MOST_REPORTED * p * p]
+    return min(rng.choice(few or [longest]), MOST)
+
+
 def small_radius(rng, reach):
     """A greatest radius of a disc that is of the drawing's size or less."""
     most = min(reach, 60)

@@ -33,12 +33,13 @@ HOW_TO_BUILD = "(cd crates/engrave_cli && rt run -- probe --drawing=data/plate.l
 SLIM = Bit(1, 2000, 1)
 LONGEST_FOR_SLIM = 2000
 
-# how many depths, codes that are checked, codes whose moves are listed, steps, discs of a step, and carved programs, for each drawing
-DEPTHS, CODES, LISTED, STEPS, DISCS, CARVED = 12, 14, 2, 2, 6, 1
+# how many depths, codes that are checked, codes whose moves are listed, steps, discs of a step, and carved programs, for each
+# drawing; and to how many codes that are checked there is one that is covered
+DEPTHS, CODES, LISTED, STEPS, DISCS, CARVED, PER_COVERED = 12, 14, 2, 2, 6, 1, 3
 
 SPARED, WITHIN = "clear: edges of which no sampled point is removed", "clear: removed points that are inside"
 CARVED_MOVES, CARVED_CLEAR = "carve: the moves of the program", "carve: the program is called clear"
-COMPARED = ["inside", "depth", "contacts", "discs", "moves", "check", SPARED, WITHIN, "carve", CARVED_MOVES, CARVED_CLEAR]
+COMPARED = ["inside", "depth", "contacts", "discs", "moves", "check", "cover", SPARED, WITHIN, "carve", CARVED_MOVES, CARVED_CLEAR]
 
 
 class Comparison:
@@ -170,9 +171,12 @@ class Comparison:
                 self.agree("carve", (3, f"input step too fine {fine}\n"), self.run(*words), *words)
                 self.spread["carve: step too fine"] += 1
                 continue
-            chains = definitions.plan(loops, job.bit, job.limit, job.step)
+            chains, pitch = definitions.plan(loops, job.bit, job.limit, job.step), cases.pitch(self.rng, loops)
+            report = definitions.uncut(loops, job.bit, definitions.code_moves(job, chains), pitch)
+            words += [f"--pitch={pitch}"]
             got = self.run(*words)
-            self.agree("carve", (0, definitions.code_text(job, chains)), got, *words)
+            self.agree("carve", (0, definitions.code_text(job, chains, report)), got, *words)
+            self.spread_of_report("carve", report)
             self.spread_of(chains)
             if got[0] == 0:
                 self.read_carved(job, chains, common, self.write(f"carved{number}.ngc", got[1]))
@@ -190,6 +194,18 @@ class Comparison:
         words = ["check", *common, f"--code={path}", f"--units={job.units}"]
         self.agree(CARVED_CLEAR, (0, f"clear {len(moves)} moves\n"), self.run(*words), *words)
 
+    def compare_covered(self, bit, words, moves):
+        pitch = cases.pitch(self.rng, self.loops)
+        report = definitions.uncut(self.loops, bit, moves, pitch)
+        words = ["cover", *words, f"--pitch={pitch}"]
+        due = "".join(line + "\n" for line in definitions.report_lines(report))
+        self.agree("cover", (0, due), self.run(*words), *words)
+        self.spread_of_report("cover", report)
+
+    def spread_of_report(self, command, report):
+        what = "no point" if report.drawing == 0 else "nothing" if report.left == 0 else "all" if report.left == report.drawing else "some"
+        self.spread[f"{command}: {what} left"] += 1
+
     def spread_of(self, chains):
         depths = [max(node.depth for node in chain) for chain in chains]
         self.spread["carve: " + ("no chain" if not chains else "one chain" if len(chains) == 1 else "several chains")] += 1
@@ -202,7 +218,10 @@ class Comparison:
             bit = cases.bit(self.rng, self.reach)
             units, code = cases.checked_code(self.rng, self.edges, self.reach, bit, inside)
             path = self.write(f"checked{number}.ngc", code.text())
-            words = ["check", *self.geometry(bit), f"--code={path}", f"--units={units}"]
+            given = [*self.geometry(bit), f"--code={path}", f"--units={units}"]
+            if number % PER_COVERED == 0:
+                self.compare_covered(bit, given, code.moves)
+            words = ["check", *given]
             found = definitions.verdict(self.edges, bit, code.moves)
             got = self.run(*words)
             self.agree("check", due_of(found, code.moves), got, *words)

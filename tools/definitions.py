@@ -93,6 +93,14 @@ class Job(NamedTuple):
     feed: int
 
 
+class Uncut(NamedTuple):
+    """What a report says: the points that are left, in runs of (y, first x, last x), and how many points the drawing holds."""
+
+    runs: list
+    drawing: int
+    left: int
+
+
 def edges_of(loops):
     return [(loop[i], loop[(i + 1) % len(loop)]) for loop in loops for i in range(len(loop))]
 
@@ -297,6 +305,54 @@ def is_removed(bit, mv, s, w):
     return is_in_disc(bit, place_at(mv, s), depth_at(mv, s), w)
 
 
+def removes(bit, mv, w):
+    """Some moment removes the point: on the part that isn't above the surface the margin to the disc is negative somewhere."""
+    return is_deep(mv) and not is_nowhere_negative(corner_margin(bit, mv, w), deep_part(mv))
+
+
+def multiples(pitch, low, high):
+    """The multiples of the pitch from low to high, both among them."""
+    return range(-(-low // pitch) * pitch, high + 1, pitch)
+
+
+def report_rows(loops, pitch):
+    """The points of a report, row by row upwards, each row to the right."""
+    points = [point for loop in loops for point in loop]
+    if not points:
+        return []
+    xs, ys = zip(*points)
+    return [[(x, y) for x in multiples(pitch, min(xs), max(xs))] for y in multiples(pitch, min(ys), max(ys))]
+
+
+def is_left(bit, moves, w):
+    return not any(removes(bit, mv, w) for mv in moves)
+
+
+def runs_of_row(points, left):
+    """The runs of neighbours in a row that are left."""
+    runs, before = [], None
+    for x, y in points:
+        if (x, y) in left:
+            if before in left:
+                runs[-1] = (*runs[-1][:2], x)
+            else:
+                runs.append((y, x, x))
+        before = (x, y)
+    return runs
+
+
+def uncut(loops, bit, moves, pitch):
+    """Which points of the report are inside the drawing and removed at no moment of any move."""
+    edges, rows = edges_of(loops), report_rows(loops, pitch)
+    inside = [w for row in rows for w in row if is_inside(edges, w)]
+    left = {w for w in inside if is_left(bit, moves, w)}
+    return Uncut([run for row in rows for run in runs_of_row(row, left)], len(inside), len(left))
+
+
+def report_lines(report):
+    return [f"uncut y {y} x {first} to {last}" for y, first, last in report.runs] + [f"uncut {report.left} of {report.drawing}"]
+
+
 def length_up(edge):
     """The least whole number that the edge is no longer than."""
     squared = squared_distance(*edge)
@@ -492,12 +548,13 @@ def chain_lines(job, chain):
     return down + [f"G1 {words(X=x, Y=y, Z=-z)}" for (x, y), z in chain[1:]] + [f"G0 {words(Z=job.safe)}"]
 
 
-def code_lines(job, chains):
-    """The lines of the program that cuts the chains."""
+def code_lines(job, chains, report):
+    """The lines of the program that cuts the chains, with the report on what it leaves."""
     bit = job.bit
     lines = [f"(bit {bit.sn}/{bit.sd} rmax {bit.rmax} limit {job.limit} step {job.step})"]
     lines += [UNIT_WORDS[job.units], "G90", f"F{job.feed}", f"G0 Z{length_text(job.units, job.safe)}"]
-    return lines + [line for chain in chains for line in chain_lines(job, chain)] + ["M2"]
+    lines += [line for chain in chains for line in chain_lines(job, chain)]
+    return lines + [f"({line})" for line in report_lines(report)] + ["M2"]
 
 
 def code_moves(job, chains):
@@ -509,5 +566,5 @@ def code_moves(job, chains):
     return [Move(line, *ends) for line, ends in enumerate(zip(spots, spots[1:]), 7)]
 
 
-def code_text(job, chains):
-    return "".join(line + "\n" for line in code_lines(job, chains))
+def code_text(job, chains, report):
+    return "".join(line + "\n" for line in code_lines(job, chains, report))

@@ -67,7 +67,7 @@ def pieces_of_rounded_length(edge, step):
     return max(1, length_down(edge) // step)
 
 
-CHAINS, CHAIN_LINES = d.chains_along, d.chain_lines
+CHAINS, CHAIN_LINES, MULTIPLES = d.chains_along, d.chain_lines, d.multiples
 
 
 def always_lifted(edges, bit, limit, p, q, halvings):
@@ -88,6 +88,31 @@ def halfway_up(p, q):
 
 def never_up_again(job, chain):
     return CHAIN_LINES(job, chain)[:-1]
+
+
+def at_the_ends_alone(bit, mv, w):
+    return any(d.is_removed(bit, mv, s, w) for s in (0, 1))
+
+
+def on_the_rim_too(bit, mv, w):
+    margin, part = d.corner_margin(bit, mv, w), d.deep_part(mv) if d.is_deep(mv) else None
+    return part is not None and d.value_at(margin, d.lowest_moment(margin, part)) <= 0
+
+
+def above_the_surface_too(bit, mv, w):
+    return d.is_deep(mv) and not d.is_nowhere_negative(d.corner_margin(bit, mv, w), (d.Fraction(0), d.Fraction(1)))
+
+
+def from_the_corner(pitch, low, high):
+    return range(low, high + 1, pitch)
+
+
+def to_the_last_but_one(pitch, low, high):
+    return MULTIPLES(pitch, low, high - 1)
+
+
+def run_by_point(points, left):
+    return [(y, x, x) for x, y in points if (x, y) in left]
 
 
 def touches(a, b, v, w):
@@ -131,4 +156,11 @@ WRONG = {
     "last-on-ties": ("nearest_chain", greatest_on_ties),
     "from-where-it-began": ("place_behind", lambda chain: chain[0].at),
     "never-up-again": ("chain_lines", never_up_again),
+    "removed-at-ends-alone": ("removes", at_the_ends_alone),
+    "rim-removed": ("removes", on_the_rim_too),
+    "removed-above-the-surface": ("removes", above_the_surface_too),
+    "points-from-the-corner": ("multiples", from_the_corner),
+    "side-left-out": ("multiples", to_the_last_but_one),
+    "a-run-a-point": ("runs_of_row", run_by_point),
+    "first-move-alone": ("is_left", lambda bit, moves, w: not moves or not d.removes(bit, moves[0], w)),
 }
