@@ -58,6 +58,8 @@ def row_cases():
     plain = {"d": rows.SQUARE, "c": rows.DOWN}
     for words, drawing, status, text in rows.CARVINGS:
         yield case_of("carvings by hand", words, {"d": drawing}, status, text)
+    for words, drawing, code, status, text in rows.COVERS:
+        yield case_of("covers by hand", words, {"d": drawing, "c": code}, status, text)
     for words, status, text in rows.WORDS:
         yield case_of("words by hand", words, plain, status, text)
     for words, status, text in rows.NAMES + (rows.UNREADABLE if os.geteuid() else []):
@@ -89,7 +91,7 @@ def cut_cases():
         for end in range(len(rows.PLATE)):
             yield due_case("cut drawings", words.encode().split(), rows.PLATE[:end], b"")
     listed = rows.PROBE + " --limit=70 --form=loops", rows.MOVES + " --units=mm1000"
-    for words in (rows.CONTACTS, rows.CARVE + " --safe=1 --feed=1", *listed, rows.CHECK):
+    for words in (rows.CONTACTS, rows.CARVE + " --safe=1 --feed=1", *listed, rows.CHECK, rows.COVER + " --pitch=7"):
         for end in range(len(words)):
             yield due_case("cut words", words[:end].encode().split(), rows.SQUARE, rows.DOWN)
 
@@ -137,13 +139,13 @@ def changed(chance, text, tokens):
 
 def random_case(chance):
     """One changed input."""
-    reader = chance.choice(("drawings", "codes", "checks", "contacts", "carvings", "words"))
+    reader = chance.choice(("drawings", "codes", "checks", "contacts", "carvings", "covers", "words"))
     drawing, code = chance.choice(rows.DRAWING_BASES), chance.choice(rows.CODE_BASES)
     words = chance.choice(rows.WORD_BASES[reader]).encode()
     either = chance.random() < 0.5
-    if reader in ("drawings", "contacts", "carvings") or reader == "checks" and either:
+    if reader in ("drawings", "contacts", "carvings") or reader in ("checks", "covers") and either:
         drawing = changed(chance, drawing, rows.DRAWING_TOKENS)
-    if reader == "codes" or reader == "checks" and not either:
+    if reader == "codes" or reader in ("checks", "covers") and not either:
         code = changed(chance, code, rows.CODE_TOKENS)
     if reader == "words":
         words = changed(chance, words, rows.WORD_TOKENS).replace(b"\0", b"")

@@ -7,13 +7,15 @@ from math import isqrt
 MOST_POINTS, MOST_DRAWING, MOST_CODE = 131_072, 16_777_216, 536_870_912
 MOST_PIECES, MOST_CONTACTS = 8192, 1_048_576
 MOST_CHAINS, MOST_NODES, MOST_STEPS = 131_072, 4_194_304, 256
+MOST_REPORTED = 16_777_216
 PER_UNIT = {b"mm10": 10, b"mm100": 100, b"mm1000": 1000, b"in100": 100, b"in1000": 1000}
 OPTIONS = {
     b"probe": (b"drawing form units bit rmax at limit", b"drawing bit rmax at"),
     b"contacts": (b"drawing form units step rmax", b"drawing step rmax"),
     b"moves": (b"code units", b"code"),
     b"check": (b"drawing form units bit rmax code", b"drawing bit rmax code"),
-    b"carve": (b"drawing form units bit rmax step limit safe feed", b"drawing bit rmax step"),
+    b"carve": (b"drawing form units bit rmax step limit safe feed pitch", b"drawing bit rmax step"),
+    b"cover": (b"drawing form units bit rmax code pitch", b"drawing bit rmax code"),
 }
 G_TAKEN = {Fraction(number, 10) for number in (170, 200, 210, 400, 490, 540, 610, 640, 800, 900, 911, 940)}
 
@@ -65,6 +67,7 @@ def request(words):
         (b"step", b"", 1, 32_767),
         (b"safe", b"", 1, 32_767),
         (b"feed", b"", 1, 10_000),
+        (b"pitch", b"", 1, 32_767),
     ):
         if name in values:
             taken[name] = numbers(values[name], separator, low, high)
@@ -140,6 +143,14 @@ def contacts_of(edges, step):
     if sum(pieces) + len(pieces) > MOST_CONTACTS:
         raise Refusal(3, b"input too many contacts\n")
     return sum(pieces) + len(pieces)
+
+
+def check_report(edges, pitch):
+    """Refuses a report of too many points."""
+    sides = [[a[axis] for a, _ in edges] for axis in (0, 1)]
+    counts = [max(side) // pitch + -min(side) // pitch + 1 for side in sides if side]
+    if counts and counts[0] * counts[1] > MOST_REPORTED:
+        raise Refusal(3, b"input too many points\n")
 
 
 def number_of(text):
@@ -234,7 +245,7 @@ def empty_program(values, taken):
     safe, zeros = taken.get(b"safe", [200])[0], len(str(PER_UNIT[units])) - 1
     setup = (b"G20" if units.startswith(b"in") else b"G21", b"G90", b"F%d" % taken.get(b"feed", [500])[0])
     up = b"G0 Z%d.%0*d" % (safe // PER_UNIT[units], zeros, safe % PER_UNIT[units])
-    return b"\n".join((note, *setup, up, b"M2\n"))
+    return b"\n".join((note, *setup, up, b"(uncut 0 of 0)", b"M2\n"))
 
 
 def due(words, files):
@@ -254,8 +265,14 @@ def due(words, files):
         if command == b"carve":
             # Where the contacts are few, so are the chains. What is written is judged by its form.
             few = MOST_STEPS * contacts_of(edges, taken[b"step"][0]) <= MOST_CHAINS
+            if few:
+                check_report(edges, taken.get(b"pitch", [10])[0])
             return ((0,) if few else (0, 3)), None if edges else empty_program(values, taken)
         moves = moves_of(file_of(files, values[b"code"], b"code", MOST_CODE), values.get(b"units", b"mm100"))
+        if command == b"cover":
+            # Where something is drawn, the lines are judged by their form.
+            check_report(edges, taken.get(b"pitch", [10])[0])
+            return (0,), None if edges else b"uncut 0 of 0\n"
     except UnicodeDecodeError:
         return (8,), b""
     except Refusal as refusal:

@@ -13,18 +13,22 @@ CONTACT = re.compile(rb"%s %s %s/[1-9][0-9]* (left|right|none) %s -?%s,-?%s\n" %
 LENGTH = rb"-?(0|[1-9][0-9]*)\.[0-9]{1,3}"
 CARVED_LINES = [rb"\(bit %s/%s rmax %s limit %s step %s\)" % ((COUNT,) * 5), rb"G2[01]", rb"G90", rb"F" + COUNT]
 CARVED_LINES += [rb"G[01] Z%s" % LENGTH, rb"G0 X%s Y%s" % ((LENGTH,) * 2), rb"G1 X%s Y%s Z%s" % ((LENGTH,) * 3)]
+RUN = rb"uncut y -?%s x -?%s to -?%s" % ((COUNT,) * 3)
+LEFT = rb"uncut %s of %s" % ((COUNT,) * 2)
+CARVED_LINES += [rb"\(%s\)" % RUN, rb"\(%s\)" % LEFT]
 CARVED_LINE = re.compile(rb"(%s)\n" % rb"|".join(CARVED_LINES))
 # The lines that are listed by a command, before its last line or alone.
-LISTED_LINES = {b"moves": MOVE, b"contacts": CONTACT, b"carve": CARVED_LINE}
+LISTED_LINES = {b"moves": MOVE, b"contacts": CONTACT, b"carve": CARVED_LINE, b"cover": re.compile(RUN + rb"\n")}
 LOOPS_KINDS = rb" (syntax|out of range|same point|too many|short)"
 CODE_KINDS = rb" (word|number|off grid|twice|units|incremental|unplaced|out of range|long line|open comment|too many)"
 FORMS = {
     (b"probe", 0): rb"depth (0|[1-9][0-9]{0,4})\n",
     (b"moves", 0): rb"moves " + COUNT + rb"\n",
     (b"check", 0): rb"clear " + COUNT + rb" moves\n",
+    (b"cover", 0): LEFT + rb"\n",
     (b"check", 1): rb"line [1-9][0-9]* (too deep|gouge edge " + COUNT + rb"|outside)\n",
     2: rb"usage\n",
-    3: rb"input (too long (drawing|code)|loops " + COUNT + LOOPS_KINDS + rb"|code line [1-9][0-9]*" + CODE_KINDS + rb"|step too fine " + COUNT + rb"|too many (contacts|nodes|chains))\n",
+    3: rb"input (too long (drawing|code)|loops " + COUNT + LOOPS_KINDS + rb"|code line [1-9][0-9]*" + CODE_KINDS + rb"|step too fine " + COUNT + rb"|too many (contacts|nodes|chains|points))\n",
     4: rb"absent (drawing|code)\n",
     5: rb"read fault\n",
     6: rb"",
@@ -43,7 +47,8 @@ MOVES = "moves --code=c"
 CHECK = "check --drawing=d --code=c --bit=1/1 --rmax=200"
 CONTACTS = "contacts --drawing=d --step=250 --rmax=600"
 CARVE = "carve --drawing=d --bit=1/1 --rmax=600 --step=500"
-SPREAD = "carve --drawing=d --bit=2/1 --rmax=1 --step=4"
+SPREAD = "carve --drawing=d --bit=2/1 --rmax=1 --step=4 --pitch=32767"
+COVER = "cover --drawing=d --code=c --bit=1/1 --rmax=200"
 
 # Drawings for PROBE: the bytes, the status, the line.
 DRAWINGS = [
@@ -217,13 +222,13 @@ CHECKS = [
 
 # Drawings for carve: the words, the bytes, the status, the text.
 FOUR = b"0,0 4,0 4,4 0,4\n"
-FINE = CARVE.replace("600", "2").replace("500", "2")
+FINE = CARVE.replace("600", "2").replace("500", "2") + " --pitch=1"
 HEAD = "(bit 1/1 rmax 2 limit 32767 step 2)\nG21\nG90\nF500\nG0 Z2.00\n"
 CORNER = "G0 X%s Y%s\nG1 Z0.00\nG0 Z2.00\n"
 CARVINGS = [
-    (CARVE, b"", 0, "(bit 1/1 rmax 600 limit 32767 step 500)\nG21\nG90\nF500\nG0 Z2.00\nM2"),
-    (CARVE + " --units=mm1000", b"#\n", 0, "(bit 1/1 rmax 600 limit 32767 step 500)\nG21\nG90\nF500\nG0 Z0.200\nM2"),
-    (CARVE + " --units=in1000 --safe=1 --feed=1 --limit=1", b"", 0, "(bit 1/1 rmax 600 limit 1 step 500)\nG20\nG90\nF1\nG0 Z0.001\nM2"),
+    (CARVE, b"", 0, "(bit 1/1 rmax 600 limit 32767 step 500)\nG21\nG90\nF500\nG0 Z2.00\n(uncut 0 of 0)\nM2"),
+    (CARVE + " --units=mm1000", b"#\n", 0, "(bit 1/1 rmax 600 limit 32767 step 500)\nG21\nG90\nF500\nG0 Z0.200\n(uncut 0 of 0)\nM2"),
+    (CARVE + " --units=in1000 --safe=1 --feed=1 --limit=1", b"", 0, "(bit 1/1 rmax 600 limit 1 step 500)\nG20\nG90\nF1\nG0 Z0.001\n(uncut 0 of 0)\nM2"),
     (
         FINE,
         FOUR,
@@ -240,6 +245,7 @@ G1 X0.00 Y0.04 Z0.00
 G1 X0.02 Y0.02 Z-0.02
 G1 X0.00 Y0.00 Z0.00
 G0 Z2.00
+(uncut 0 of 9)
 M2""",
     ),
     (
@@ -248,13 +254,32 @@ M2""",
         0,
         HEAD.replace("step 2", "step 4")
         + "".join(CORNER % place for place in (("0.00", "0.00"), ("0.00", "0.00"), ("0.04", "0.00"), ("0.04", "0.04"), ("0.00", "0.04")))
-        + "M2",
+        + "(uncut y 1 x 1 to 3)\n(uncut y 2 x 1 to 3)\n(uncut y 3 x 1 to 3)\n(uncut 9 of 9)\nM2",
     ),
     # There and back: nothing is inside.
-    (FINE, b"0,0 1,0\n", 0, HEAD + "".join(CORNER % place for place in (("0.00", "0.00"), ("0.00", "0.00"), ("0.01", "0.00"))) + "M2"),
+    (FINE, b"0,0 1,0\n", 0, HEAD + "".join(CORNER % place for place in (("0.00", "0.00"), ("0.00", "0.00"), ("0.01", "0.00"))) + "(uncut 0 of 0)\nM2"),
     (CARVE, b"0,0\n", 3, "input loops 0 short"),
     (FINE, b"-32768,0 32767,0 0,1\n", 3, "input step too fine 0"),
     (FINE, FOUR + b"0,0 32767,0 0,9\n", 3, "input step too fine 4"),
+    (FINE.replace("step=2", "step=32767"), b"-1,-1 32767,-1 0,600\n", 3, "input too many points"),
+]
+
+# Drawings and codes for cover: the words, the bytes of both, the status, the text.
+COVERS = [
+    (COVER, b"", b"", 0, "uncut 0 of 0"),
+    (COVER, b"", b"Q", 3, "input code line 1 word"),
+    (COVER, b"0,0", b"Q", 3, "input loops 0 short"),
+    (COVER + " --pitch=1", b"-32768,-32768 32767,32767\n", b"Q", 3, "input code line 1 word"),
+    (COVER + " --pitch=1", b"-32768,-32768 32767,32767\n", b"", 3, "input too many points"),
+    (COVER + " --pitch=1", b"0,0 4095,0 4095,4096\n", b"", 3, "input too many points"),
+    # 4096 rows of 4096 points: none of two points of a loop is inside.
+    (COVER + " --pitch=1", b"0,0 4095,4095\n", b"", 0, "uncut 0 of 0"),
+    (COVER + " --pitch=500", SQUARE, b"", 0, "uncut y 500 x 500 to 500\nuncut 1 of 1"),
+    (COVER + " --pitch=500", SQUARE, b"Z1\nX5Y5\nZ-.001\n", 0, "uncut 0 of 1"),
+    # The disc is open, and a line that isn't below the surface removes nothing.
+    (COVER + " --pitch=500", SQUARE, b"Z1\nX5Y4\nZ-1\n", 0, "uncut y 500 x 500 to 500\nuncut 1 of 1"),
+    (COVER + " --pitch=500", SQUARE, b"Z0\nX5Y5\nX6\n", 0, "uncut y 500 x 500 to 500\nuncut 1 of 1"),
+    (COVER + " --pitch=32767", b"-32768,-32768 32767,-32768 32767,32767 -32768,32767\n", b"", 0, "uncut y -32767 x -32767 to 0\nuncut y 0 x -32767 to 0\nuncut 4 of 4"),
 ]
 
 # Words beside the files d with SQUARE and c with DOWN: the words, the status, the text. The system passes no word of more
@@ -313,7 +338,7 @@ WORDS = [
 0 3 1/2 left 1 1,500
 0 3 2/2 none 0 0,0"""),
     (
-        CARVE + " --units=in1000 --safe=32767 --feed=10000 --limit=1",
+        CARVE + " --units=in1000 --safe=32767 --feed=10000 --limit=1 --pitch=500",
         0,
         """(bit 1/1 rmax 600 limit 1 step 500)
 G20
@@ -331,6 +356,7 @@ G1 X0.000 Y1.000 Z0.000
 G1 X0.500 Y0.500 Z-0.001
 G1 X0.000 Y0.000 Z0.000
 G0 Z32.767
+(uncut 0 of 1)
 M2""",
     ),
     ("carve", 2, "usage"),
@@ -349,7 +375,19 @@ M2""",
     (CARVE + " --limit=0", 2, "usage"),
     (CARVE + " --limit=32768", 2, "usage"),
     (CARVE + " --form=dxf", 2, "usage"),
-    (CARVE + " --pitch=10", 2, "usage"),
+    (CARVE + " --pitch=0", 2, "usage"),
+    (CARVE + " --pitch=32768", 2, "usage"),
+    (CARVE + " --pitch=1.0", 2, "usage"),
+    ("cover", 2, "usage"),
+    (COVER.replace("--code=c", ""), 2, "usage"),
+    (COVER.replace("--drawing=d", ""), 2, "usage"),
+    (COVER.replace("--bit=1/1", ""), 2, "usage"),
+    (COVER.replace("--rmax=200", ""), 2, "usage"),
+    (COVER + " --pitch=0", 2, "usage"),
+    (COVER + " --pitch=32768", 2, "usage"),
+    (COVER + " --pitch=1 --pitch=1", 2, "usage"),
+    (COVER + " --step=5", 2, "usage"),
+    (COVER + " --limit=5", 2, "usage"),
     (CARVE + " --pocket=none", 2, "usage"),
     (CARVE + " --over=50", 2, "usage"),
     (CARVE + " --code=c", 2, "usage"),
@@ -574,9 +612,10 @@ WORD_BASES = {
     "drawings": [PROBE, PROBE.replace("500,500", "501,200"), SMALL],
     "codes": [MOVES, MOVES + " --units=mm1000", MOVES + " --units=in100", MOVES + " --units=mm10"],
     "checks": [CHECK, CHECK + " --units=mm10", CHECK.replace("1/1", "2000/1999")],
+    "covers": [COVER, COVER + " --pitch=77", COVER.replace("1/1", "2000/1999") + " --pitch=1000"],
     "contacts": [CONTACTS, CONTACTS.replace("250", "1"), CONTACTS + " --units=in100"],
     "carvings": [CARVE, CARVE.replace("500", "5"), CARVE.replace("1/1", "1/200") + " --units=in1000", FINE],
-    "words": [PROBE + " --limit=7", CONTACTS, MOVES + " --units=mm100", CHECK, APART, CARVE + " --safe=7 --feed=8"],
+    "words": [PROBE + " --limit=7", CONTACTS, MOVES + " --units=mm100", CHECK, APART, CARVE + " --safe=7 --feed=8", COVER + " --pitch=9"],
 }
 ALPHABET = b"0123456789012345678901234567890123456789,,,,....---++     \t\t\r\n\n\n\n\n#GXYZMNgxyzFSP()%;=/\xe9"
 BREAKS = [b"\n", b"\r\n", b"\r", b" ", b"\t", b"\0", b"\xef\xbb\xbf", b"\v"]
