@@ -160,6 +160,17 @@ def street_places():
         yield *places, -generator.randint(500, 1500)
 
 
+def scratch_places(count):
+    """A walk all over the name plate by steps of at most 0.2 mm along each axis, at most 0.4 mm deep."""
+    generator = random.Random(SEED)
+    width, height = 10 * LETTERS * CELL_WIDTH, 20 * CELL_HEIGHT
+    x, y = width // 2, height // 2
+    for _ in range(count):
+        x = max(0, min(width, x + generator.randint(-200, 200)))
+        y = max(0, min(height, y + generator.randint(-200, 200)))
+        yield x, y, -generator.randint(50, 400)
+
+
 def field_rounds(count):
     # The first is above the surface, and so is each move to another octagon.
     return itertools.islice(round_places(), count)

@@ -52,8 +52,11 @@ SQUARES_STEP, SQUARES_RMAX = "50", "16"
 # Name plates that are carved: how many pieces each line of an outline has, which gives 1,020 and 9,980 edges, and the bit.
 CARVE_PIECES, CARVE_BIT, CARVE_RMAX = (12, 124), "571/989", "300"
 
-# Beyond so many pairs of a question and an edge the obvious method isn't run.
-MOST_PAIRS = 1_500_000_000
+# How far apart the points of the name plate's reports are, and how many moves are covered.
+COVER_PITCHES, COVERED_MOVES = (20, 5, 1), 50_000
+
+# Beyond so many pairs of a question and an edge, or of a point and a move, the obvious method isn't run.
+MOST_PAIRS = 1_600_000_000
 
 
 class WrongRun(Exception):
@@ -269,6 +272,16 @@ def carve_case(folder, pieces):
     return Case(f"{edges:,} edges, {contacts:,} contacts", contacts, 0, (drawing,), words, "M2", ())
 
 
+def cover_case(folder, pitch):
+    drawing = drawing_file(folder, "plate", make_inputs.name_plate)
+    code = code_file(folder, SCRATCHES, COVERED_MOVES)
+    words = ("cover", f"--drawing={drawing}", f"--code={code}", f"--bit={CHECK_BIT}", f"--rmax={SCRATCHES.rmax}", f"--pitch={pitch}")
+    plain = ("cover", drawing, code, CHECK_BIT, str(pitch))
+    points = (make_inputs.LETTERS * make_inputs.CELL_WIDTH // pitch) * (2 * make_inputs.CELL_HEIGHT // pitch)
+    text = f"{COVERED_MOVES:,} moves, {points:,} points"
+    return Case(text, points, points * COVERED_MOVES, (drawing, code), words, "uncut ", plain, 0)
+
+
 def squares_case(folder, rows):
     squares = make_inputs.squares(rows)
     return contacts_case(drawing_file(folder, f"squares{rows}", lambda: squares), squares, SQUARES_STEP, SQUARES_RMAX)
@@ -278,6 +291,7 @@ RING_SHORT = Kind("ring_short", make_inputs.short_places, "200")
 RING_LONG = Kind("ring_long", make_inputs.long_places, "8191")
 FIELD_SHORT = Kind("field_short", make_inputs.field_rounds, "200")
 FIELD_LONG = Kind("field_long", make_inputs.field_streets, "8191")
+SCRATCHES = Kind("scratches", make_inputs.scratch_places, "300")
 
 
 def series(folder, count):
@@ -294,6 +308,7 @@ def series(folder, count):
         yield f"`contacts`, name plate, `--rmax={rmax}`", (plate_case(folder, rmax) for _ in range(1))
     yield "`contacts`, squares", (squares_case(folder, rows) for rows in SQUARE_ROWS[:count])
     yield "`carve`, name plate", (carve_case(folder, pieces) for pieces in CARVE_PIECES[:count])
+    yield "`cover`, name plate", (cover_case(folder, pitch) for pitch in COVER_PITCHES[:count])
 
 
 def growth(before, size, seconds):

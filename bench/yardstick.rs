@@ -2,11 +2,14 @@
 // usage: yardstick METHOD probe DRAWING X,Y SN/SD RMAX
 //        yardstick METHOD check DRAWING CODE SN/SD RMAX
 //        yardstick METHOD contacts DRAWING STEP RMAX
+//        yardstick METHOD cover DRAWING CODE SN/SD PITCH
 //        yardstick METHOD moves CODE
 //        yardstick near check DRAWING CODE SN/SD RMAX   how many tests of a move against an edge are due
 // METHOD is `grid`: edges are found by a uniform grid of cells, and what is inside by bands of rows; `all`: each question walks
-// all edges, each of them first by its box; or, for `contacts`, `double`: as `grid`, in double precision, with answers that may be off.
+// all edges, each of them first by its box, and each point of a report all moves; or, for `contacts`, `double`: as `grid`, in double precision, with answers that may be off.
 // It takes the files that make_inputs.py makes, at 100 grid units a millimetre, and judges no fault of a text.
+mod coverage;
+
 use std::fs::read;
 use std::io::{Write, stdout};
 use std::ops::Range;
@@ -251,6 +254,14 @@ impl Scene {
         match &mut self.index {
             Some(index) => index.grid.near(q, |number| visit(number, edges[number as usize])),
             None => (0..).zip(edges).filter(|(_, edge)| edge.rect().meets(q)).for_each(|(e, edge)| visit(e, *edge)),
+        }
+    }
+
+    // Visits the edges that may meet a row.
+    fn on_row(&self, row: i32, visit: impl FnMut(Edge)) {
+        match &self.index {
+            Some(index) => index.bands.of_row(row).iter().map(|&number| self.edges[number as usize]).for_each(visit),
+            None => self.edges.iter().copied().for_each(visit),
         }
     }
 
@@ -760,6 +771,10 @@ fn answer(method: &str, words: &[&str]) -> Text {
                 "near" => near_pairs(&mut scene, &moves, &bit).to_string(),
                 _ => verdict(&mut scene, &moves, &bit),
             })
+        }
+        ["cover", drawing, code, slope, pitch] => {
+            let (scene, moves) = (Scene::of(read_drawing(drawing).0, method), read_code(code));
+            coverage::report(&scene, &moves, &read_bit(slope, "0"), pitch.parse().unwrap(), method == "grid")
         }
         ["contacts", drawing, step, rmax] => {
             let (edges, loops) = read_drawing(drawing);
