@@ -1,3 +1,4 @@
 -- The lemmas of the crate.
 pub mod Ring
 pub mod Order
+pub mod Floors

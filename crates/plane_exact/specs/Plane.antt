@@ -39,6 +39,13 @@ pub record Fraction : Type 0 where
   pub finish : k ≤ℤ n
   pub some : pos 1 ≤ℤ n
 
+-- u is v + (k / n) (w - v) for some fraction k / n, both sides multiplied by the denominators: a rational point of the
+-- straight path from v to w, its ends among them
+pub record IsOnPath (v w u : RationalPoint) : Type 0 where
+  pub at : Fraction
+  pub across : (at.n *ℤ (v.over *ℤ w.over)) *ℤ u.x ≡ u.over *ℤ ((at.n -ℤ at.k) *ℤ (w.over *ℤ v.x) +ℤ at.k *ℤ (v.over *ℤ w.x))
+  pub up : (at.n *ℤ (v.over *ℤ w.over)) *ℤ u.y ≡ u.over *ℤ ((at.n -ℤ at.k) *ℤ (w.over *ℤ v.y) +ℤ at.k *ℤ (v.over *ℤ w.y))
+
 -- w is a + (k / n) (b - a) for some fraction k / n: a point of the segment from a to b, its ends among them
 pub record IsBetween (a b : GridPoint) (w : RationalPoint) : Type 0 where
   pub at : Fraction

@@ -7,6 +7,7 @@
 
 mod bit;
 mod distance;
+mod floor;
 mod meet;
 mod moves;
 mod node;
@@ -18,6 +19,7 @@ mod way;
 
 pub use bit::{Bit, MOST_RADIUS, MOST_SLOPE};
 pub use distance::dist_at_least;
+pub use floor::floor_div;
 pub use meet::{Meet, cross_kind};
 pub use moves::{LineMove, MOST_DEPTH, MOST_SPOT_DEPTH, Move, Spot};
 pub use node::{Chain, MOST_CHAINS, MOST_NODES, Node};

@@ -13,7 +13,7 @@ use Rattle.evenodd_region.specs.Lookup.{IsNearGrid}
 use Rattle.segment_grid.specs.Near.{box_of}
 use Rattle.depth_rule.proofs.Aside.{missed_is_far}
 use Rattle.tangent_disc.specs.OpenDisc.{IsOff}
-use Rattle.tangent_disc.specs.Rounding.{IsFloor}
+use Rattle.integer_algebra.specs.Floors.{IsFloor}
 
 pub missed : (v : RationalPoint) (reach : ℤ) (radius : ℕ) → reach ≤ℤ square (pos radius *ℤ v.over) → (e : Seg) (column row : ℤ) → IsFloor v.x v.over column
     → IsFloor v.y v.over row → (q : Rect) → q.x0 ≡ column -ℤ pos radius → q.x1 ≡ column +ℤ pos radius → q.y0 ≡ row -ℤ pos radius

@@ -4,7 +4,6 @@ pub mod Law
 pub mod OpenDisc
 pub mod Pieces
 pub mod Roots
-pub mod Rounding
 pub mod Tangent
 pub mod Touch
 pub mod Ways

@@ -1,20 +1,14 @@
 // Quotients of whole numbers, rounded to whole numbers.
 ghost use Rattle.std.specs.Prelude.{pos, negsuc, ◌≤ℤ◌};
 ghost use Rattle.integer_algebra.specs.Ranges.{IsWithin};
-ghost use Rattle.tangent_disc.specs.Rounding.{IsFloor};
+ghost use Rattle.integer_algebra.specs.Floors.{IsFloor};
 ghost use Rattle.tangent_disc.specs.Tangent.{IsRounded};
 ghost use Rattle.tangent_disc.specs.Ways.{most_over};
 ghost use Rattle.evenodd_region.specs.Lookup.{IsNearGrid};
 
-// The floor of z / over.
-pub(crate) fn floor_div(z: i64, over: i64) -> i64
-    requires { pos 1 ≤ℤ over }
-    ensures { IsFloor z over result }
-{
-    z.div_euclid(over)
-}
+use plane_exact::floor_div;
 
-// The same of a coordinate near the grid.
+// The floor of z / over, of a coordinate near the grid.
 pub(crate) fn grid_floor(z: i64, over: i64) -> i32
     requires some { pos 1 ≤ℤ over }
     requires near { IsNearGrid z over }

@@ -3,13 +3,13 @@ use mir.Syntax.{w64}
 use Rattle.std.proofs.Common.{◌≡◌, arith, refl, subst}
 use Rattle.std.proofs.lemmas.Int.{ints, to_z-of_z}
 use Rattle.plane_exact.proofs.Stored.{narrow, wide}
-use Rattle.tangent_disc.specs.Rounding.{IsFloor}
+use Rattle.integer_algebra.specs.Floors.{IsFloor}
 use Rattle.tangent_disc.proofs.Beyond.{floor_within}
-use Rattle.tangent_disc.proofs.Floors.{floor_same}
+use Rattle.integer_algebra.proofs.Floors.{floor_same}
 use Rattle.tangent_disc.proofs.rounding.grid_floor.Goals as goal
 
 floor : (c : goal.After-floor_div) → IsFloor c.args.z c.args.over c.floor_div.result
-floor c = floor_same c.args.z c.args.over c.floor_div.result _ _ c.floor_div.result (to_z-of_z w64 c.args.z c.ranges.z) (to_z-of_z w64 c.args.over c.ranges.over) refl c.floor_div.ensures
+floor c = floor_same (to_z-of_z w64 c.args.z c.ranges.z) (to_z-of_z w64 c.args.over c.ranges.over) refl c.floor_div.ensures
 
 pub overflow_cast-result : goal.overflow_cast-result
 overflow_cast-result c =

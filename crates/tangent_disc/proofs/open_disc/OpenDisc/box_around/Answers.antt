@@ -5,7 +5,7 @@ use Rattle.integer_algebra.specs.Ranges.{IsWithin}
 use Rattle.plane_exact.proofs.Stored.{narrow, wide}
 use Rattle.tangent_disc.specs.OpenDisc.{centre_of}
 use Rattle.tangent_disc.proofs.Beyond.{missed}
-use Rattle.tangent_disc.proofs.Floors.{floor_same}
+use Rattle.integer_algebra.proofs.Floors.{floor_same}
 use Rattle.tangent_disc.proofs.open_disc.OpenDisc.box_around.Goals as goal
 
 minus : (a : ℤ) (n : ℕ) → IsWithin (negsuc 40959) (pos 40959) a → n ≤ 8191 → narrow (narrow a -ℤ to_z w32 n) ≡ a -ℤ pos n
@@ -47,7 +47,7 @@ returns c e misses =
     let across = c.grid_floor-column.ensures.range in
     let up = c.grid_floor-row.ensures.range in
     missed (centre_of d) d.reach c.args.radius c.requires.wide e column row
-    (floor_same d.x d.over column _ _ column x over refl c.grid_floor-column.ensures.floor)
-    (floor_same d.y d.over row _ _ row y over refl c.grid_floor-row.ensures.floor)
+    (floor_same x over refl c.grid_floor-column.ensures.floor)
+    (floor_same y over refl c.grid_floor-row.ensures.floor)
     _ (minus column c.args.radius across c.requires.low) (plus column c.args.radius across c.requires.low)
     (minus row c.args.radius up c.requires.low) (plus row c.args.radius up c.requires.low) misses
