@@ -39,14 +39,14 @@ shifted_below end word n is some =
 -- ---- one word written
 
 module _ (words : List ℕ) (w v : ℕ) (within : w < length words) where
-  bit_here : (i : ℕ) → i / 64 ≡ w → bit_in (set words w v) i ≡ bit_at v (i % 64)
+  pub bit_here : (i : ℕ) → i / 64 ≡ w → bit_in (set words w v) i ≡ bit_at v (i % 64)
   bit_here i here = rw here (ap (λ n. bit_at n (i % 64)) (get_or-set_same words w v 0 within))
 
-  bit_there : (i : ℕ) → i / 64 ≢ w → bit_in (set words w v) i ≡ bit_in words i
+  pub bit_there : (i : ℕ) → i / 64 ≢ w → bit_in (set words w v) i ≡ bit_in words i
   bit_there i there = ap (λ n. bit_at n (i % 64)) (get_or-set_other words w (i / 64) v 0 there)
 
 -- i is in another word, and so it is below both ends of this one or neither
-beside_word : (i w from end : ℕ) → i / 64 ≢ w → from ≡ 64 * w → from ≤ end → end ≤ from + 64 → nat_lt i from ≡ nat_lt i end
+pub beside_word : (i w from end : ℕ) → i / 64 ≢ w → from ≡ 64 * w → from ≤ end → end ≤ from + 64 → nat_lt i from ≡ nat_lt i end
 beside_word i w from end there starts ordered short = elim (cases_lt i from) [
   | inl low ↦ grind (arith, nat_tests)
   | inr high ↦ let past : end ≤ i = omega arith in grind (arith, nat_tests)
@@ -56,12 +56,12 @@ turned_bit : (b o m : ℕ) → b ≡ (o + 0) % 2 → (b + m) % 2 ≡ (o + m) % 2
 turned_bit b o m was = omega arith
 
 -- the bit of a mask at the place of i in its word
-mask_bit : (end w mask i : ℕ) → i / 64 ≡ w → IsBelow end w mask → bit_at mask (i % 64) ≡ one_where (nat_lt i end)
+pub mask_bit : (end w mask i : ℕ) → i / 64 ≡ w → IsBelow end w mask → bit_at mask (i % 64) ≡ one_where (nat_lt i end)
 mask_bit end w mask i here below =
     let place : 64 * w + i % 64 ≡ i = omega arith in
     below.bits (i % 64) (omega arith) ∙ ap (λ n. one_where (nat_lt n end)) place
 
-word_bit : (words : List ℕ) (w i : ℕ) → i / 64 ≡ w → bit_at (get_or words w 0) (i % 64) ≡ bit_in words i
+pub word_bit : (words : List ℕ) (w i : ℕ) → i / 64 ≡ w → bit_at (get_or words w 0) (i % 64) ≡ bit_in words i
 word_bit words w i here = ap (λ n. bit_at (get_or words n 0) (i % 64)) (sym here)
 
 -- the mask turns the bits of its word from `from` to below `end`

@@ -15,7 +15,8 @@ use Rattle.plane_exact.specs.declared.point.Seg.{Seg}
 use Rattle.engrave_model.specs.Drawing.{edges_back_to, edges_of_loop, edges_of}
 use Rattle.engrave_model.specs.Inside.{IsInside, is_counted}
 use Rattle.evenodd_region.specs.Bounds.{IsInBox, InsideBoxLaw, points_of}
-use Rattle.evenodd_region.specs.Parity.{IsOnPath, IsPathFree}
+use Rattle.plane_exact.specs.Plane.{IsOnPath}
+use Rattle.evenodd_region.specs.Parity.{IsPathFree}
 use Rattle.evenodd_region.proofs.Counting.{beside_row}
 use Rattle.evenodd_region.proofs.Rounds.{parity, split}
 

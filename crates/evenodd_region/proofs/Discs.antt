@@ -6,7 +6,7 @@ use Rattle.integer_algebra.proofs.Order.{square_nonneg, square_le, times_nonneg,
 use Rattle.plane_exact.specs.Distance.{square, scaled_distance, IsCloser}
 use Rattle.plane_exact.specs.Plane.{RationalPoint}
 use Rattle.engrave_model.proofs.Discs.{distance_nonneg}
-use Rattle.evenodd_region.specs.Parity.{IsOnPath}
+use Rattle.plane_exact.specs.Plane.{IsOnPath}
 
 square_some : (z : ℤ) → pos 0 <ℤ z → pos 0 <ℤ square z
 square_some z some = times_pos z z some some

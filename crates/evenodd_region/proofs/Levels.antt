@@ -7,7 +7,7 @@ use Rattle.std.proofs.lemmas.Int.{ints}
 use Rattle.integer_algebra.proofs.Ring.{ring, V, K, M, ◌⊕◌, ◌⊖◌, ◌⊗◌}
 use Rattle.integer_algebra.proofs.Order.{mix, mix_nonneg, times_nonneg, times_pos}
 use Rattle.plane_exact.specs.Plane.{GridPoint, RationalPoint, IsBetween}
-use Rattle.evenodd_region.specs.Parity.{IsOnPath}
+use Rattle.plane_exact.specs.Plane.{IsOnPath}
 
 -- weights of two ends
 pub record Weights : Type 0 where

@@ -13,7 +13,8 @@ use Rattle.plane_exact.specs.declared.point.Seg.{Seg}
 use Rattle.engrave_model.specs.Drawing.{edges_back_to, edges_of_loop, edges_of}
 use Rattle.engrave_model.specs.Inside.{is_counted}
 use Rattle.plane_exact.proofs.Fractions.{first, last}
-use Rattle.evenodd_region.specs.Parity.{IsOnPath, IsPathFree, IsPathOff, ParityLaw, exactly_one, is_right_of_path}
+use Rattle.plane_exact.specs.Plane.{IsOnPath}
+use Rattle.evenodd_region.specs.Parity.{IsPathFree, IsPathOff, ParityLaw, exactly_one, is_right_of_path}
 use Rattle.evenodd_region.proofs.OneEdge.{edge_law}
 
 -- 1 where a test holds

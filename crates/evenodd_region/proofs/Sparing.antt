@@ -13,7 +13,8 @@ use Rattle.plane_exact.specs.declared.point.Seg.{Seg}
 use Rattle.engrave_model.specs.Drawing.{edges_of}
 use Rattle.engrave_model.specs.Inside.{IsInside}
 use Rattle.engrave_model.specs.Removal.{Moment, place_at, depth_at, tenfold, IsRemoved, Removes, RemovesNone}
-use Rattle.evenodd_region.specs.Parity.{IsOnPath, IsPathFree}
+use Rattle.plane_exact.specs.Plane.{IsOnPath}
+use Rattle.evenodd_region.specs.Parity.{IsPathFree}
 use Rattle.evenodd_region.specs.SafeMoves.{SparingMoveLaw, SurfaceMoveLaw}
 use Rattle.evenodd_region.proofs.Discs.{centre_closer, way_closer, slope_some}
 use Rattle.evenodd_region.proofs.Rounds.{parity}

@@ -5,7 +5,7 @@ use Rattle.integer_algebra.proofs.Ring.{ring, V, K, ◌⊕◌, ◌⊖◌, ◌⊗
 use Rattle.integer_algebra.proofs.Order.{cancel_same}
 use Rattle.plane_exact.specs.Plane.{RationalPoint}
 use Rattle.engrave_model.specs.Removal.{tenfold}
-use Rattle.evenodd_region.specs.Parity.{IsOnPath}
+use Rattle.plane_exact.specs.Plane.{IsOnPath}
 
 -- a point that is given in tenths, in grid units
 unfoldable pub tenth : RationalPoint → RationalPoint

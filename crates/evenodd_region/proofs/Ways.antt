@@ -10,7 +10,7 @@ use Rattle.plane_exact.specs.declared.moves.Move.{Move}
 use Rattle.plane_exact.specs.Moves.{depth_of, IsDeep, first_deep}
 use Rattle.engrave_model.specs.Removal.{Moment, between, place_at, depth_at, from_tenths}
 use Rattle.plane_exact.proofs.Fractions.{first, last}
-use Rattle.evenodd_region.specs.Parity.{IsOnPath}
+use Rattle.plane_exact.specs.Plane.{IsOnPath}
 use Rattle.evenodd_region.proofs.Discs.{IsSamePlace}
 use Rattle.evenodd_region.proofs.Levels.{mix_some}
 use Rattle.evenodd_region.proofs.Tenths.{tenth}

@@ -1,16 +1,9 @@
 -- Straight paths between rational points, and what the even-odd rule says along one that meets no edge.
 use Rattle.std.specs.Prelude.{◌≡◌, ◌↔◌, Bool, not, ◌&&◌, if◌then◌else◌, List, ◌+ℤ◌, ◌-ℤ◌, ◌*ℤ◌, int_lt}
-use Rattle.plane_exact.specs.Plane.{Fraction, GridPoint, RationalPoint, IsBetween}
+use Rattle.plane_exact.specs.Plane.{GridPoint, RationalPoint, IsBetween, IsOnPath}
 use Rattle.plane_exact.specs.declared.point.Seg.{Seg}
 use Rattle.engrave_model.specs.Drawing.{edges_of}
 use Rattle.engrave_model.specs.Inside.{IsOnOutline, IsInside, is_at_or_below, is_counted}
-
--- u is v + (k / n) (w - v) for some fraction k / n, both sides multiplied by the denominators: a rational point of the
--- straight path from v to w, its ends among them
-pub record IsOnPath (v w u : RationalPoint) : Type 0 where
-  pub at : Fraction
-  pub across : (at.n *ℤ (v.over *ℤ w.over)) *ℤ u.x ≡ u.over *ℤ ((at.n -ℤ at.k) *ℤ (w.over *ℤ v.x) +ℤ at.k *ℤ (v.over *ℤ w.x))
-  pub up : (at.n *ℤ (v.over *ℤ w.over)) *ℤ u.y ≡ u.over *ℤ ((at.n -ℤ at.k) *ℤ (w.over *ℤ v.y) +ℤ at.k *ℤ (v.over *ℤ w.y))
 
 -- no rational point of the path is on an edge
 abbrev pub IsPathFree : List Seg → RationalPoint → RationalPoint → Type 0

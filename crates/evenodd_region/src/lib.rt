@@ -23,3 +23,4 @@ pub use grid::is_inside;
 pub use marks::row_inside;
 pub use rows::{Rows, inside, inside_ratio};
 pub use way::scaled_way;
+pub use words::ones_below;

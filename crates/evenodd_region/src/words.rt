@@ -2,8 +2,8 @@
 ghost use Rattle.std.specs.Prelude.{◌≤◌, ◌*◌, ◌^◌, length};
 ghost use Rattle.evenodd_region.specs.RowBits.{IsBelow, IsCleared, IsFlipped, is_between};
 
-// For the word of this number, the bits that are below `end` among all words' bits.
-fn ones_below(end: u32, word: usize) -> u64
+/// For the word of this number, the bits that are below `end` among all words' bits.
+pub fn ones_below(end: u32, word: usize) -> u64
     requires { word ≤ 2 ^ 27 }
     ensures { IsBelow end word result }
 {

@@ -49,7 +49,7 @@ disc_there sd sn n o X Y D x y z some ex ey ez near =
     omega (arith, ints)
 
 -- one of the weights isn't 0
-some_weight : (l m d e : ℤ) → pos 0 ≤ℤ l → pos 0 ≤ℤ m → pos 0 <ℤ (l *ℤ d +ℤ m *ℤ e) → pos 1 ≤ℤ (l +ℤ m)
+pub some_weight : (l m d e : ℤ) → pos 0 ≤ℤ l → pos 0 ≤ℤ m → pos 0 <ℤ (l *ℤ d +ℤ m *ℤ e) → pos 1 ≤ℤ (l +ℤ m)
 some_weight l m d e start finish below =
     by_lt_z (pos 0) (l +ℤ m) (λ some. omega (arith, ints)) (λ none.
     let first : l *ℤ d ≡ pos 0 = ap (λ z. z *ℤ d) (let h : l ≡ pos 0 = omega (arith, ints) in h) ∙ zero_times d in
@@ -164,7 +164,7 @@ module _ (cone : Cone) (f g : GridPlace) (p : GridPoint) (x y d x' y' d' : ℤ) 
   abbrev R : ℤ
   R = square (pos cone.sn)
 
-  same_ways : ReachesAt cone f g (tenfold (rational p)) ↔ Reaches Q R x y d x' y' d'
+  pub same_ways : ReachesAt cone f g (tenfold (rational p)) ↔ Reaches Q R x y d x' y' d'
   same_ways =
       let e : pos 1 *ℤ f.at.x -ℤ pos 10 *ℤ p.x ≡ x = in_units f.at.x p.x ∙ sym ways.across in
       let e₁ : pos 1 *ℤ f.at.y -ℤ pos 10 *ℤ p.y ≡ y = in_units f.at.y p.y ∙ sym ways.up in

@@ -139,7 +139,7 @@ module _ (Q R x y d x' y' d' : ℤ) (q : pos 0 ≤ℤ Q) where
       (first ⊗ (V 8 ⊗ V 10) ⊕ mid ⊗ (V 8 ⊗ V 11 ⊕ V 9 ⊗ V 10) ⊕ last ⊗ (V 9 ⊗ V 11)) tt
 
   -- near is where the form is negative, from the surface down
-  near_of : (l m : ℤ) → mixed C H E l m l m <ℤ pos 0 → pos 0 ≤ℤ (l *ℤ d +ℤ m *ℤ d') → IsNearBy l m
+  pub near_of : (l m : ℤ) → mixed C H E l m l m <ℤ pos 0 → pos 0 ≤ℤ (l *ℤ d +ℤ m *ℤ d') → IsNearBy l m
   near_of l m low below =
       let e = lean_mixed l m l m in
       some_depth Q R (l *ℤ x +ℤ m *ℤ x') (l *ℤ y +ℤ m *ℤ y') (l *ℤ d +ℤ m *ℤ d') q (subst (λ z. z <ℤ pos 0) (sym e) low) below

@@ -32,3 +32,10 @@ pub mod Deepest
 pub mod Nappe
 pub mod Dips
 pub mod Cuts
+-- what a move removes of a row, and the rows that it can reach
+pub mod Convex
+pub mod Sights
+pub mod Middles
+pub mod Rows
+pub mod Searches
+pub mod Bands

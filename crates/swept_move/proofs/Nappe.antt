@@ -4,7 +4,7 @@ use Rattle.std.proofs.Common.{◌≡◌, ℤ, pos, ◌+ℤ◌, ◌-ℤ◌, ◌*�
 use Rattle.std.proofs.lemmas.Int.{ints, by_lt_z}
 use Rattle.std.proofs.Math.IntN.{*ℤ_comm}
 use Rattle.integer_algebra.proofs.Ring.{ring, V, ◌⊕◌, ◌⊖◌, ◌⊗◌}
-use Rattle.integer_algebra.proofs.Order.{root_lt, sign_of_pos, square_nonneg, times_le, times_lt, times_nonneg, times_pos, times_zero}
+use Rattle.integer_algebra.proofs.Order.{cancel_lt, root_lt, sign_of_pos, square_nonneg, times_le, times_lt, times_nonneg, times_pos, times_zero}
 use Rattle.swept_move.proofs.Hits.{IsNear}
 
 -- the product of two ways with their depths: of a way with itself it is negative just where the way is shorter than the bit's
@@ -15,6 +15,25 @@ lean Q R x y d x' y' d' = Q *ℤ (x *ℤ x' +ℤ y *ℤ y') -ℤ R *ℤ (d *ℤ 
 pub near_same : (Q R x y d x' y' d' : ℤ) → x ≡ x' → y ≡ y' → d ≡ d' → IsNear Q R x y d → IsNear Q R x' y' d'
 near_same Q R x y d x' y' d' ex ey ed near =
     subst (λ z. IsNear Q R x' y' z) ed (subst (λ z. IsNear Q R x' z d) ey (subst (λ z. IsNear Q R z y d) ex near))
+
+-- a multiple of a near way is near
+pub near_times : (Q R m x y d : ℤ) → pos 0 <ℤ m → IsNear Q R x y d → IsNear Q R (m *ℤ x) (m *ℤ y) (m *ℤ d)
+near_times Q R m x y d some near =
+    let scaled = times_lt (m *ℤ m) (Q *ℤ (x *ℤ x +ℤ y *ℤ y)) (R *ℤ (d *ℤ d)) (times_pos m m some some) near.close in
+    let left = ring (Q ∷ m ∷ x ∷ y ∷ []) (V 0 ⊗ ((V 1 ⊗ V 2) ⊗ (V 1 ⊗ V 2) ⊕ (V 1 ⊗ V 3) ⊗ (V 1 ⊗ V 3))) ((V 1 ⊗ V 1) ⊗ (V 0 ⊗ (V 2 ⊗ V 2 ⊕ V 3 ⊗ V 3))) tt in
+    let right = ring (R ∷ m ∷ d ∷ []) (V 0 ⊗ ((V 1 ⊗ V 2) ⊗ (V 1 ⊗ V 2))) ((V 1 ⊗ V 1) ⊗ (V 0 ⊗ (V 2 ⊗ V 2))) tt in
+    record { below = times_pos m d some near.below; close = omega (arith, ints) }
+
+-- and what has a near multiple is near
+pub near_whole : (Q R m x y d : ℤ) → pos 0 <ℤ m → IsNear Q R (m *ℤ x) (m *ℤ y) (m *ℤ d) → IsNear Q R x y d
+near_whole Q R m x y d some near =
+    let close = near.close in
+    let left = ring (Q ∷ m ∷ x ∷ y ∷ []) (V 0 ⊗ ((V 1 ⊗ V 2) ⊗ (V 1 ⊗ V 2) ⊕ (V 1 ⊗ V 3) ⊗ (V 1 ⊗ V 3))) ((V 1 ⊗ V 1) ⊗ (V 0 ⊗ (V 2 ⊗ V 2 ⊕ V 3 ⊗ V 3))) tt in
+    let right = ring (R ∷ m ∷ d ∷ []) (V 0 ⊗ ((V 1 ⊗ V 2) ⊗ (V 1 ⊗ V 2))) ((V 1 ⊗ V 1) ⊗ (V 0 ⊗ (V 2 ⊗ V 2))) tt in
+    record {
+      below = sign_of_pos m d (omega (arith, ints)) near.below;
+      close = cancel_lt (m *ℤ m) (Q *ℤ (x *ℤ x +ℤ y *ℤ y)) (R *ℤ (d *ℤ d)) (square_nonneg m) (omega (arith, ints));
+    }
 
 -- Q times the square of a way
 wide : (Q x y : ℤ) → pos 0 ≤ℤ Q → pos 0 ≤ℤ (Q *ℤ (x *ℤ x +ℤ y *ℤ y))

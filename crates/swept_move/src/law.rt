@@ -1,4 +1,5 @@
 // What the tests of a move against an edge say of all moments between, and what those of its parts say of the whole.
+ghost use Rattle.swept_move.specs.Convex.{ConvexLaw};
 ghost use Rattle.swept_move.specs.Law.{ClearRunLaw, CutLaw, ExactLaw, SweptLaw};
 ghost use Rattle.swept_move.specs.Motion.{BesideLaw, DeepPartLaw, JoinLaw, MotionConverseLaw, MotionLaw, RunLaw, SuccessiveLaw};
 ghost use Rattle.swept_move.specs.Reach.{ReachLaw};
@@ -82,4 +83,10 @@ pub fn successive_law()
 /// the one move from the first to the last is clear, for a bit of some width.
 pub fn clear_run_law()
     ensures { ClearRunLaw }
+{}
+
+/// What a move removes is convex: a point between two that it removes, be it at different moments, is removed at some moment too.
+/// The three points may be any rational ones.
+pub fn convex_law()
+    ensures { ConvexLaw }
 {}

@@ -34,7 +34,7 @@ fn removes_from(from: Spot, to: Spot, bit: &Bit, p: Point) -> bool
 }
 
 // How deep the spot is: below 0 where it is above the surface.
-fn depth(spot: Spot) -> i64
+pub fn depth(spot: Spot) -> i64
     ensures value { result ≡ neg_ℤ spot.h }
     ensures range { IsFineWay result }
 {
@@ -70,7 +70,7 @@ fn is_dip(ends: Clearance, first: i64, last: i64) -> bool
 }
 
 // Whether a * b is less than c * d. Two numbers of 63 bits make 126, so the products are taken in 128.
-fn is_less(a: i64, b: i64, c: i64, d: i64) -> bool
+pub fn is_less(a: i64, b: i64, c: i64, d: i64) -> bool
     requires a { IsFineCoefficient a }
     requires b { IsFineCoefficient b }
     requires c { IsFineCoefficient c }
