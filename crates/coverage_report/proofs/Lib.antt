@@ -1,5 +1,8 @@
 -- The lemmas of the crate.
 pub mod Alls
+pub mod CutBits
+pub mod CutGrids
+pub mod CutPlaces
 pub mod JoinedRuns
 pub mod LatticePoints
 pub mod Lattices
@@ -8,6 +11,5 @@ pub mod Reports
 pub mod RowPoints
 pub mod RunsFrom
 pub mod SetCounts
-pub mod Sparing
 pub mod TakenRows
 pub mod Ticks

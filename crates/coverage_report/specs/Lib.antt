@@ -1,4 +1,5 @@
 -- The definitions of the crate.
+pub mod Cuts
 pub mod Lattices
 pub mod Points
 pub mod Report

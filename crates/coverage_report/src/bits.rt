@@ -1,6 +1,6 @@
 // The bits of a row of points.
 ghost use Rattle.std.specs.Prelude.{◌≡◌, ℕ, ◌<◌, ◌+◌, ◌*◌, ◌/◌, ◌==◌, length};
-ghost use Rattle.evenodd_region.specs.RowBits.{IsCleared, IsSetIn};
+ghost use Rattle.evenodd_region.specs.RowBits.{IsSetIn};
 ghost use Rattle.coverage_report.specs.Rows.{is_set_in, set_points};
 
 use crate::row::Row;
@@ -12,14 +12,6 @@ pub fn is_set(bits: &[u64], i: u32) -> bool
     ensures { result ≡ is_set_in bits.now i }
 {
     bits[(i / 64) as usize] >> (i % 64) & 1 == 1
-}
-
-/// Makes the bit of this number 0, and leaves the others.
-pub fn clear_bit(bits: &mut [u64], i: u32)
-    requires { i < 64 * length bits.old }
-    ensures { IsCleared (λ k. k == i) bits.old bits.new }
-{
-    bits[(i / 64) as usize] &= !(1u64 << (i % 64));
 }
 
 /// How many points of the row have bits that are 1; the bits behind those of its points are 0.

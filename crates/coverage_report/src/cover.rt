@@ -1,17 +1,19 @@
 // The report on the points that a program leaves uncut.
-ghost use Rattle.std.specs.Prelude.{◌≡◌, ◌+◌, ◌/◌, length, IfOk, MatchOption, MatchResult};
-ghost use Rattle.plane_exact.specs.Cone.{IsFromOneTo};
+ghost use Rattle.std.specs.Prelude.{◌≡◌, ◌+◌, ◌/◌, List, length, IfOk, MatchOption, MatchResult};
+ghost use Rattle.plane_exact.specs.Cone.{Cone, IsFromOneTo};
 ghost use Rattle.plane_exact.specs.Plane.{GridPoint};
 ghost use Rattle.engrave_model.specs.Drawing.{edges_of};
+ghost use Rattle.coverage_report.specs.Cuts.{AreRowCuts};
 ghost use Rattle.coverage_report.specs.Lattices.{IsLatticeOf};
 ghost use Rattle.coverage_report.specs.Points.{IsReportPoint};
 ghost use Rattle.coverage_report.specs.Report.{IsCoverFault, IsReportOn};
 ghost use Rattle.coverage_report.specs.Taken.{AreRowsTaken, IsRowTaken};
 
 use crate::bits::count_set;
+use crate::cuts::cuts_of;
 use crate::fault::CoverFault;
 use crate::lattice::{Lattice, lattice_of};
-use crate::marks::clear_removed;
+use crate::marks::clear_cut;
 use crate::row::Row;
 use crate::runs::push_runs;
 use depth_rule::Scene;
@@ -68,12 +70,15 @@ fn take_rows(
 ) -> Result<Uncut, AllocError>
     ensures { IfOk result (λ uncut. AreRowsTaken (edges_of scene.now) bit.now moves.now lattice.now lattice.now.rows uncut.runs uncut.drawing uncut.left) }
 {
+    let cuts = cuts_of(alloc, lattice, bit, moves)?;
     let mut bits = vec![in alloc; 0; (lattice.columns() as usize + 63) / 64]?;
     let mut runs = Vec::new(alloc);
     let mut drawing = 0;
     let mut left = 0;
     for k in 0..lattice.rows() {
-        let counts = take_row(scene, bit, moves, &lattice.row(k), &mut bits, &mut runs)?;
+        let row = lattice.row(k);
+        let cut = cuts.row(k);
+        let counts = take_row(scene, &row, cut, &mut bits, &mut runs)?;
         drawing += counts.drawing;
         left += counts.left;
     }
@@ -91,21 +96,21 @@ struct Counts {
     left: u64,
 }
 
-// The same of one row; its bits are what `bits` are afterwards.
+// The same of one row; `cut` tells which of its points moves remove, and its bits are what `bits` are afterwards.
 fn take_row(
     scene: &Scene,
-    bit: &Bit,
-    moves: &[LineMove],
     row: &Row,
+    cut: &[u64],
     bits: &mut [u64],
     runs: &mut Vec<Run>,
 ) -> Result<Counts, AllocError>
-    requires { length bits.old ≡ (row.now.count + 63) / 64 }
-    ensures { IfOk result (λ counts. IsRowTaken (edges_of scene.now) bit.now moves.now row.now runs.old.items runs.new.items counts.drawing counts.left) }
+    requires words { length bits.old ≡ (row.now.count + 63) / 64 }
+    requires cut { length cut.now ≡ (row.now.count + 63) / 64 }
+    ensures { (cone : Cone) (moves : List LineMove) → AreRowCuts cone moves row.now cut.now → IfOk result (λ counts. IsRowTaken (edges_of scene.now) cone moves row.now runs.old.items runs.new.items counts.drawing counts.left) }
 {
     scene.row_inside(row.y, row.x, row.pitch, row.count, bits);
     let drawing = count_set(row, bits);
-    clear_removed(row, bit, moves, bits);
+    clear_cut(cut, bits);
     let left = count_set(row, bits);
     push_runs(row, bits, runs)?;
     Ok(Counts { drawing, left })

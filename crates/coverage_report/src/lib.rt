@@ -6,6 +6,7 @@
 
 mod bits;
 mod cover;
+mod cuts;
 mod fault;
 mod lattice;
 mod marks;

@@ -1,4 +1,6 @@
 // Reports on squares: with no move, with a move and with plunges, at several pitches.
+mod random;
+
 use crate::cover::uncut;
 use crate::fault::CoverFault;
 use depth_rule::Scene;
@@ -6,6 +8,7 @@ use loops_text::Drawing;
 use plane_exact::{Bit, LineMove, Move, Point, Spot, Uncut};
 use std::alloc::Global;
 use std::test::Fail;
+use swept_move::row_cut;
 
 // The scene of a square with sides along the axes, from the corner (low, low) to (high, high).
 fn square(alloc: Global, low: i64, high: i64) -> Result<Scene, Fail> {
@@ -147,5 +150,18 @@ fn a_row_may_have_more_points_than_a_word_has_bits(rt: HostRuntime) -> Result<()
     let report = uncut(rt.alloc(), &scene, &cone()?, &moves, 1)?;
     assert!(rt; has_runs(&report, &[(1, 1, 63), (1, 65, 70), (2, 1, 69)]));
     assert_eq!(rt; (report.left, report.drawing), (138, 140));
+    Ok(())
+}
+
+#[test]
+fn a_level_cut_removes_an_interval_of_a_row_and_nothing_of_a_row_on_its_rim(
+    rt: HostRuntime,
+) -> Result<(), Fail> {
+    let mv = Move {
+        from: spot(0, 0, -20)?,
+        to: spot(100, 0, -20)?,
+    };
+    assert_eq!(rt; row_cut(&mv, &cone()?, 1, -10, 20), Some((-1, 11)));
+    assert_eq!(rt; row_cut(&mv, &cone()?, 2, -10, 20), None);
     Ok(())
 }
