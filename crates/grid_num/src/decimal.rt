@@ -13,13 +13,14 @@ use std::marker::Model;
 /// Why a text isn't a whole number of the scale.
 #[derive(Clone, Copy, Debug, PartialEq, Eq)]
 pub enum NumFault {
-    /// The text isn't an optional sign and digits with at most one point among, before or after them.
+    /// The text isn't an optional sign and digits with at most one point among, before or after them, then, where that is
+    /// taken, an exponent.
     NotNumber,
     /// More than 27 digits, counted from the first that isn't 0.
     TooManyDigits,
     /// The number times the scale isn't whole.
     OffGrid,
-    /// The number times the scale is above 2^53 in size.
+    /// The number times the scale, rounded where that is said, is above 2^53 in size.
     OutOfRange,
 }
 
@@ -32,9 +33,9 @@ const MOST_SHORT_PLACES: usize = 19;
 /// A plain decimal number of at most 27 digits, exactly: `digits / 10^places`, or minus that.
 #[derive(Clone, Copy, Debug, PartialEq, Eq)]
 pub struct Decimal {
-    negative: bool,
-    digits: u128,
-    places: usize,
+    pub(crate) negative: bool,
+    pub(crate) digits: u128,
+    pub(crate) places: usize,
 }
 
 impl Model for Decimal {

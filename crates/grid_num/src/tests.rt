@@ -1,5 +1,5 @@
 // Numbers in text, at the scales of the units and at the ends of what is read, and square roots. The expected answers are written by hand.
-use crate::{NumFault, isqrt, read_decimal, write_decimal};
+use crate::{NumFault, isqrt, read_decimal, read_real, write_decimal};
 use std::test::Fail;
 
 #[test]
@@ -44,6 +44,53 @@ fn numbers_at_scales(rt: HostRuntime) -> Result<(), Fail> {
         assert!(rt; 1 <= scale && scale <= 1 << 30);
         assert_eq!(rt;
             read_decimal(text.as_bytes(), scale),
+            want,
+            "{text} at {scale}"
+        );
+    }
+    Ok(())
+}
+
+#[test]
+fn reals_at_scales(rt: HostRuntime) -> Result<(), Fail> {
+    let rows = [
+        ("1e3", 1, Ok(1000)),
+        ("1E+3", 1, Ok(1000)),
+        ("1e-3", 1000, Ok(1)),
+        (".5e1", 1, Ok(5)),
+        ("25.4", 1000, Ok(25_400)),
+        ("0.0005", 1000, Ok(1)),
+        ("-0.0005", 1000, Ok(0)),
+        ("-0.00051", 1000, Ok(-1)),
+        ("-0.0015", 1000, Ok(-1)),
+        ("0.00001e20", 1, Ok(1_000_000_000_000_000)),
+        ("0e999", 1, Ok(0)),
+        ("1e999", 1, Err(NumFault::OutOfRange)),
+        ("1e-999", 1, Ok(0)),
+        ("-1e-999", 1, Ok(0)),
+        ("9007199254740992.4", 1, Ok(9_007_199_254_740_992)),
+        ("9007199254740992.5", 1, Err(NumFault::OutOfRange)),
+        ("-9007199254740992.5", 1, Ok(-9_007_199_254_740_992)),
+        ("999999999999999999999999999e-27", 1, Ok(1)),
+        ("499999999999999999999999999e-27", 1, Ok(0)),
+        ("123456789012345678901234567e-27", 1 << 30, Ok(132_560_718)),
+        (
+            "1000000000000000000000000000",
+            1,
+            Err(NumFault::TooManyDigits),
+        ),
+        ("1000000000000000000000000000e", 1, Err(NumFault::NotNumber)),
+        ("1e0001", 1, Err(NumFault::NotNumber)),
+        ("1e", 1, Err(NumFault::NotNumber)),
+        ("1e+", 1, Err(NumFault::NotNumber)),
+        ("e5", 1, Err(NumFault::NotNumber)),
+        ("1e5e5", 1, Err(NumFault::NotNumber)),
+        ("1e1.5", 1, Err(NumFault::NotNumber)),
+    ];
+    for (text, scale, want) in rows {
+        assert!(rt; 1 <= scale && scale <= 1 << 30);
+        assert_eq!(rt;
+            read_real(text.as_bytes(), scale),
             want,
             "{text} at {scale}"
         );
