@@ -61,7 +61,7 @@ carved job pitch loops seen plan given moves uncut text some seen_is given_is is
     let planned = subst (λ l. IsPlan l job.bit job.limit job.step plan) seen_is is in
     let program : text ≡ program_text job plan uncut = text_is ∙ ap (λ chains. program_text job chains uncut) given_is in
     let on_plan = subst (λ l. IsReportOn l job.bit (chain_moves job plan) pitch uncut) seen_is
-        (subst (λ m. IsReportOn seen job.bit m pitch uncut) moves_are report) in
+    (subst (λ m. IsReportOn seen job.bit m pitch uncut) moves_are report) in
     let within = plan_is_within job seen plan given given_is is in
     inl (record {
       plan = plan;

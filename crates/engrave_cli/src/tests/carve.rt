@@ -19,7 +19,10 @@ pub const CARVED: &str =
 #[test]
 fn a_small_square_is_carved_line_by_line(rt: HostRuntime) -> Result<(), Fail> {
     for (words, text) in [
-        ("carve --drawing=d --bit=1/1 --rmax=2 --step=2 --pitch=1", CARVED),
+        (
+            "carve --drawing=d --bit=1/1 --rmax=2 --step=2 --pitch=1",
+            CARVED,
+        ),
         // A bit that is too narrow for the middle goes round it, and leaves it.
         (
             "carve --drawing=d --bit=1/1 --rmax=1 --step=2 --units=in1000 --safe=5 --feed=10000 --limit=9 --pitch=1",
@@ -42,7 +45,8 @@ fn a_small_square_is_carved_line_by_line(rt: HostRuntime) -> Result<(), Fail> {
         expect(&rt, rt.alloc(), words, (SMALL, ""), (0, text))?;
     }
     let words = "carve --drawing=d --bit=1/1 --rmax=2 --step=2";
-    let nothing = "(bit 1/1 rmax 2 limit 32767 step 2)\nG21\nG90\nF500\nG0 Z2.00\n(uncut 0 of 0)\nM2\n";
+    let nothing =
+        "(bit 1/1 rmax 2 limit 32767 step 2)\nG21\nG90\nF500\nG0 Z2.00\n(uncut 0 of 0)\nM2\n";
     expect(&rt, rt.alloc(), words, ("", ""), (0, nothing))
 }
 

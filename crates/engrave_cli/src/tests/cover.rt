@@ -22,7 +22,9 @@ fn expect_left(
 }
 
 #[test]
-fn a_move_through_the_surface_removes_what_lies_under_its_deep_part(rt: HostRuntime) -> Result<(), Fail> {
+fn a_move_through_the_surface_removes_what_lies_under_its_deep_part(
+    rt: HostRuntime,
+) -> Result<(), Fail> {
     // The disc is open, so (2,2) is on its rim at best; it holds (3,1) from three quarters of the way on, that moment excluded.
     let code = "G0 Z0.02\nG0 X0 Y0.02\nG1 X0.04 Z-0.02";
     let left = "uncut y 1 x 1 to 2\nuncut y 2 x 1 to 2\nuncut y 3 x 1 to 2\nuncut 6 of 9\n";
@@ -39,7 +41,8 @@ fn a_point_may_be_removed_only_between_two_nodes(rt: HostRuntime) -> Result<(), 
     let alloc = rt.alloc();
     // (1,1) is at the distance of their depth from both ends of the last move.
     let ends = "G0 Z1\nG0 X0.02 Y0.01\nG1 Z-0.01\nG0 Z1\nG0 X0.01 Y0.02\nG1 Z-0.01";
-    let left = "uncut y 1 x 1 to 1\nuncut y 1 x 3 to 3\nuncut y 2 x 2 to 3\nuncut y 3 x 1 to 3\nuncut 7 of 9\n";
+    let left =
+        "uncut y 1 x 1 to 1\nuncut y 1 x 3 to 3\nuncut y 2 x 2 to 3\nuncut y 3 x 1 to 3\nuncut 7 of 9\n";
     expect_left(&rt, alloc, (SMALL, ends), 1, 1, left)?;
     let between = "G0 Z1\nG0 X0.02 Y0.01\nG1 Z-0.01\nG1 X0.01 Y0.02";
     let left = "uncut y 1 x 3 to 3\nuncut y 2 x 3 to 3\nuncut y 3 x 1 to 3\nuncut 5 of 9\n";
@@ -49,7 +52,8 @@ fn a_point_may_be_removed_only_between_two_nodes(rt: HostRuntime) -> Result<(), 
 #[test]
 fn points_on_the_rim_of_a_disc_are_left(rt: HostRuntime) -> Result<(), Fail> {
     let plunge = "G0 Z1\nG0 X0.02 Y0.02\nG1 Z-0.01";
-    let left = "uncut y 1 x 1 to 3\nuncut y 2 x 1 to 1\nuncut y 2 x 3 to 3\nuncut y 3 x 1 to 3\nuncut 8 of 9\n";
+    let left =
+        "uncut y 1 x 1 to 3\nuncut y 2 x 1 to 1\nuncut y 2 x 3 to 3\nuncut y 3 x 1 to 3\nuncut 8 of 9\n";
     expect_left(&rt, rt.alloc(), (SMALL, plunge), 1, 1, left)
 }
 
@@ -90,5 +94,11 @@ fn the_points_are_multiples_of_the_pitch_within_the_box(rt: HostRuntime) -> Resu
 fn the_points_lie_ten_units_apart_where_no_pitch_is_given(rt: HostRuntime) -> Result<(), Fail> {
     let words = "cover --drawing=d --code=c --bit=1/1 --rmax=1";
     let files = ("0,0 20,0 20,20 0,20", "");
-    expect(&rt, rt.alloc(), words, files, (0, "uncut y 10 x 10 to 10\nuncut 1 of 1\n"))
+    expect(
+        &rt,
+        rt.alloc(),
+        words,
+        files,
+        (0, "uncut y 10 x 10 to 10\nuncut 1 of 1\n"),
+    )
 }
