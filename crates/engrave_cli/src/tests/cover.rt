@@ -58,6 +58,40 @@ fn points_on_the_rim_of_a_disc_are_left(rt: HostRuntime) -> Result<(), Fail> {
 }
 
 #[test]
+fn a_row_may_be_grazed_or_ended_on_or_be_where_the_surface_is_crossed(
+    rt: HostRuntime,
+) -> Result<(), Fail> {
+    for (code, text) in [
+        (
+            "G0 Z1\nG0 X0.01 Y0.01\nG1 Z-0.01\nG1 X0.03",
+            "uncut y 2 x 1 to 3\nuncut y 3 x 1 to 3\nuncut 6 of 9\n",
+        ),
+        (
+            "G0 Z1\nG0 X0.02 Y0.01\nG1 Z-0.01\nG1 Y0.02",
+            "uncut y 1 x 1 to 1\nuncut y 1 x 3 to 3\nuncut y 2 x 1 to 1\nuncut y 2 x 3 to 3\nuncut y 3 x 1 to 3\n\
+             uncut 7 of 9\n",
+        ),
+        (
+            "G0 Z0.02\nG0 X0.02 Y0\nG1 Y0.04 Z-0.02",
+            "uncut y 1 x 1 to 3\nuncut y 2 x 1 to 3\nuncut 6 of 9\n",
+        ),
+    ] {
+        expect_left(&rt, rt.alloc(), (SMALL, code), 2, 1, text)?;
+    }
+    Ok(())
+}
+
+#[test]
+fn a_move_may_be_smaller_than_the_pitch(rt: HostRuntime) -> Result<(), Fail> {
+    let plate = "0,0 60,0 60,60 0,60";
+    let on = "G0 Z1\nG0 X0.3 Y0.3\nG1 Z-0.02\nG1 X0.31";
+    expect_left(&rt, rt.alloc(), (plate, on), 2, 30, "uncut 0 of 1\n")?;
+    let beside = "G0 Z1\nG0 X0.33 Y0.33\nG1 Z-0.01\nG1 X0.35";
+    let left = "uncut y 30 x 30 to 30\nuncut 1 of 1\n";
+    expect_left(&rt, rt.alloc(), (plate, beside), 2, 30, left)
+}
+
+#[test]
 fn what_is_too_deep_for_the_bit_removes_as_its_cone_does(rt: HostRuntime) -> Result<(), Fail> {
     let plunge = "G0 Z1\nG0 X0.02 Y0.02\nG1 Z-0.05";
     expect_left(&rt, rt.alloc(), (SMALL, plunge), 1, 1, "uncut 0 of 9\n")
