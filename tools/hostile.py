@@ -13,6 +13,7 @@ import argparse
 import multiprocessing
 import os
 import random
+import re
 import shutil
 import signal
 import sys
@@ -201,6 +202,16 @@ def count_in(file, text):
     return sum(piece.count(text) * count for piece, count in file)
 
 
+def reported(case):
+    """How many rows and points a report may have at most, where the command makes one."""
+    if case.words[:1] not in ([b"cover"], [b"carve"]):
+        return 0, 0
+    found = [re.fullmatch(rb"--pitch=0*([1-9][0-9]{0,4})", word) for word in case.words]
+    pitch = next((int(match[1]) for match in found if match), 10)
+    rows_up = 65_536 // pitch + 1
+    return rows_up, min(rows_up**2, hostile_expected.MOST_REPORTED)
+
+
 def bounds(case):
     """The most seconds, and MiB without those for lines, that are stated for a case."""
     size = sum(len(piece) * count for file in case.files.values() for piece, count in file)
@@ -215,13 +226,17 @@ def bounds(case):
     memory += rows.BYTES_A_CONTACT * contacts
     reading = rows.SECONDS_A_MEBIBYTE * size / MEBIBYTE + rows.SECONDS_A_MOVE * moves
     planning = rows.SECONDS_A_CONTACT * contacts + rows.SECONDS_A_NODE * nodes
-    return rows.SECONDS + reading + planning + rows.SECONDS_A_PAIR * pairs, rows.MEBIBYTES + memory / MEBIBYTE
+    rows_up, dots = reported(case)
+    reporting = rows.SECONDS_A_POINT * dots + rows.SECONDS_A_ROW * rows_up * (moves + nodes)
+    return rows.SECONDS + reading + planning + reporting + rows.SECONDS_A_PAIR * pairs, rows.MEBIBYTES + memory / MEBIBYTE
 
 
 def lines_of(case, status):
-    """How many lines a carved program has; where it wasn't written, how many nodes it may have had."""
-    if case.words[:1] != [b"carve"] or status not in (0, 3, 7):
+    """How many lines a carved program or a report has; where it wasn't written, how many nodes or points it may have had."""
+    if case.words[:1] not in ([b"carve"], [b"cover"]) or status not in (0, 3, 7):
         return 0
+    if case.words[:1] == [b"cover"] and status:
+        return reported(case)[1] // 2
     with open("text", "rb") as text:
         return hostile_expected.MOST_NODES if status else sum(1 for _ in text)
 

@@ -590,11 +590,12 @@ HUGE = [
 # Limits of the address space, in MiB, under which an answer may be the want of memory.
 SPACES = [*range(4, 40, 2), 48, 64, 96, 128]
 
-# What is stated of memory: so many MiB, and bytes for each byte of the files, move of the code, contact, line of a carved program, and
-# word; never more than the last, in MiB. And of time: so many seconds, and seconds for each MiB, move, contact, node that there may
-# be, and, in a check, pair of a move and an edge.
+# What is stated of memory: so many MiB, and bytes for each byte of the files, move of the code, contact, line of a carved program or of a
+# report, and word; never more than the last, in MiB. And of time: so many seconds, and seconds for each MiB, move, contact, node that
+# there may be, in a check for each pair of a move and an edge, and in a report for each point and each row that a move may reach.
 MEBIBYTES, BYTES_A_BYTE, BYTES_A_MOVE, BYTES_A_CONTACT, BYTES_A_LINE, BYTES_A_WORD, MOST_MEBIBYTES = 32, 1, 80, 64, 100, 512, 1024
 SECONDS, SECONDS_A_MEBIBYTE, SECONDS_A_MOVE, SECONDS_A_CONTACT, SECONDS_A_NODE, SECONDS_A_PAIR = 2, 0.05, 2e-6, 1e-5, 3e-5, 2e-7
+SECONDS_A_POINT, SECONDS_A_ROW = 1e-7, 3e-6
 
 # What changed inputs are made of: inputs to begin with, and what is put into them.
 DRAWING_BASES = [SQUARE, ANGLE, PLATE, b"0,0 1,1", b"-5,-5 999,-5 500,999\r\n0,0 9,0 0,9\r\n", b""]
