@@ -31,7 +31,7 @@ unfoldable pub towards : (bits f : ℕ) (s t : Heading) → Heading
 towards zero f s t = s
 towards (suc bits) f s t = if f / 2 ^ bits % 2 == 1 then towards bits f (halfway_of s t) t else towards bits f s (halfway_of s t)
 
--- the x and the y axis
+-- along the x axis
 abbrev pub x_axis : Heading
 x_axis = record { x = 1073741824; y = 0 }
 
