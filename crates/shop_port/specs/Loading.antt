@@ -1,5 +1,5 @@
 -- What loading a file answers.
-use Rattle.std.specs.Prelude.{◌≡◌, ℕ, List, [], length, take, if◌then◌else◌, nat_lt, Option, None, Some, Result, Ok, Err}
+use Rattle.std.specs.Prelude.{◌≡◌, ℕ, List, [], ◌++◌, length, take, if◌then◌else◌, nat_lt, Option, None, Some, Result, Ok, Err}
 use Rattle.shop_port.specs.declared.loading.LoadFault.{LoadFault}
 use Rattle.shop_port.specs.declared.loading.LoadFault.TheVariants.{Absent, ReadFault, TooLong, Memory}
 
@@ -28,3 +28,16 @@ IsExpectedOrMemory bytes expected (Err Memory) = Unit {0}
 abbrev pub IsFront : Option (List ℕ) → List ℕ → Type 0
 IsFront None bytes = bytes ≡ []
 IsFront (Some file) bytes = take (length bytes) file ≡ bytes
+
+-- n bytes came at the front of the buffer, behind those that are the front of the file; none only at its end
+pub record GoesOn (cap : ℕ) (file : Option (List ℕ)) (bytes into : List ℕ) (n : ℕ) : Type 0 where
+  pub front : IsFront file (bytes ++ take n into)
+  pub end : n ≡ 0 → file_within cap file ≡ Ok bytes
+
+-- the next piece of a file, or what refuses it
+abbrev pub IsNextPiece : ℕ → Option (List ℕ) → (bytes into : List ℕ) → Result ℕ LoadFault → Type 0
+IsNextPiece cap file bytes into (Ok n) = GoesOn cap file bytes into n
+IsNextPiece cap file bytes into (Err Absent) = file_within cap file ≡ Err Absent
+IsNextPiece cap file bytes into (Err TooLong) = file_within cap file ≡ Err TooLong
+IsNextPiece cap file bytes into (Err ReadFault) = Unit {0}
+IsNextPiece cap file bytes into (Err Memory) = ⊥

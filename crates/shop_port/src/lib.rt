@@ -1,6 +1,6 @@
 //! The outside as a program sees it: files that are read, an output that is written, and fakes of both.
 //!
-//! Its promise is in the clauses of `load` and `send`: exactly the stored bytes are read, all bytes or a front part are written, and a
+//! Its promise is in the clauses of `load`, `next_piece` and `send`: exactly the stored bytes are read, all bytes or a front part are written, and a
 //! fault comes only where the outside counted one. The traits `Depot` and `Sink` say what they rest on.
 #![tactic(auto)]
 
@@ -16,7 +16,7 @@ mod sure;
 
 pub use depot::{Depot, Failed, Fetch};
 pub use host::{HostDepot, HostSink};
-pub use loading::{LoadFault, load};
+pub use loading::{LoadFault, load, next_piece};
 pub use memory::{MemDepot, MemSink};
 pub use sending::{WriteFault, send};
 pub use sink::Sink;

@@ -1,7 +1,7 @@
-// Loads a whole file, up to a cap.
+// Loads a whole file, up to a cap, or reads it piece by piece.
 ghost use Rattle.std.specs.Prelude.{◌≡◌, ◌≤◌, ◌<◌, ◌+◌, List, [], ℕ, length, IfOk, IfSome, OnOk, IsErrOf};
 ghost use Rattle.shop_port.specs.Counts.{Rose};
-ghost use Rattle.shop_port.specs.Loading.{file_within, IsExpected, IsExpectedOrMemory, IsFront};
+ghost use Rattle.shop_port.specs.Loading.{file_within, IsExpected, IsExpectedOrMemory, IsFront, IsNextPiece};
 ghost use Rattle.shop_port.specs.declared.loading.LoadFault.TheVariants.{Absent, Memory, ReadFault, TooLong};
 
 use crate::{Depot, Fetch};
@@ -62,7 +62,7 @@ fn zeros(alloc: Global) -> Result<Vec<u8>, AllocError>
     vec![in alloc; 0; PIECE]
 }
 
-/// Reads piece after piece behind the bytes, until the file ends or they are more than the cap.
+/// Reads piece after piece behind the bytes, until the file ends or has more than the cap.
 fn read_to_end<D: Depot>(
     depot: &mut D,
     name: &str,
@@ -80,44 +80,43 @@ fn read_to_end<D: Depot>(
     ensures misses { D.misses depot.old ≤ D.misses depot.new }
     ensures faults { D.faults depot.old ≤ D.faults depot.new }
 {
-    while bytes.len() as u64 <= cap {
-        if read_piece(depot, name, cap, piece, bytes)? == 0 {
+    'pieces: loop {
+        let n = next_piece(depot, name, cap, bytes.len() as u64, piece)?;
+        if n == 0 {
             return Ok(());
         }
+        bytes.extend_from_slice(&piece[..n])?;
     }
-    Err(LoadFault::TooLong)
 }
 
-/// Reads one piece behind the bytes, and says how many bytes it has: 0 at the end of the file.
-fn read_piece<D: Depot>(
+/// Reads the next piece of the file of this name, of which `at` bytes came before, to the front of the buffer, and says how many
+/// bytes it has: 0 at the end of the file. It asks for one byte more than the cap at most, and refuses a file that has so many. It
+/// takes no memory.
+pub fn next_piece<D: Depot>(
     depot: &mut D,
     name: &str,
     cap: u64,
+    at: u64,
     piece: &mut [u8],
-    bytes: &mut Vec<u8>,
 ) -> Result<usize, LoadFault>
     requires room { 0 < length piece.old }
-    requires under { length bytes.old.items ≤ cap }
-    ensures longer { IfOk result (λ n. length bytes.new.items ≡ length bytes.old.items + n) }
-    ensures front { IfSome (D.held depot.old) (λ files. IsFront (files name.now) bytes.old.items
-        → OnOk result (IsFront (files name.now) bytes.new.items)) }
-    ensures end { IfSome (D.held depot.old) (λ files. IsFront (files name.now) bytes.old.items
-        → IfOk result (λ n. n ≡ 0 → file_within cap (files name.now) ≡ Ok bytes.new.items)) }
-    ensures no_file { IfSome (D.held depot.old) (λ files. IsErrOf result Absent → files name.now ≡ None) }
-    ensures not_long { IsErrOf result TooLong → ⊥ }
+    requires under { at ≤ cap }
+    ensures value { IfSome (D.held depot.old) (λ files. (bytes : List ℕ) → at ≡ length bytes → IsFront (files name.now) bytes
+        → IsNextPiece cap (files name.now) bytes piece.new result) }
+    ensures range { IfOk result (λ n. n ≤ length piece.new) }
+    ensures capped { IfOk result (λ n. at + n ≤ cap) }
+    ensures no_memory { IsErrOf result Memory → ⊥ }
     ensures unchanged { D.held depot.new ≡ D.held depot.old }
     ensures absent { IsErrOf result Absent → Rose (D.misses depot.old) (D.misses depot.new) }
     ensures failed { IsErrOf result ReadFault → Rose (D.faults depot.old) (D.faults depot.new) }
     ensures misses { D.misses depot.old ≤ D.misses depot.new }
     ensures faults { D.faults depot.old ≤ D.faults depot.new }
 {
-    let at = bytes.len() as u64;
-    let wanted = wanted(cap - at, piece.len());
+    let left = cap - at;
+    let wanted = wanted(left, piece.len());
     match depot.read(name, at, &mut piece[..wanted]) {
-        Ok(Fetch::Got(n)) => {
-            bytes.extend_from_slice(&piece[..n])?;
-            Ok(n)
-        }
+        Ok(Fetch::Got(n)) if n as u64 > left => Err(LoadFault::TooLong),
+        Ok(Fetch::Got(n)) => Ok(n),
         Ok(Fetch::Absent) => Err(LoadFault::Absent),
         Err(_) => Err(LoadFault::ReadFault),
     }
