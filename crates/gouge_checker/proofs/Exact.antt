@@ -16,6 +16,7 @@ use Rattle.swept_move.proofs.Moves.{cuts_or_passes}
 use Rattle.depth_rule.specs.Met.{IsFirstMet, IsOutside}
 use Rattle.depth_rule.proofs.Exact.{on_outline, own_place_removed, safe_is_clear}
 use Rattle.gouge_checker.specs.Harm.{Harms, IsAnyPoint, IsFit, IsHarmful, IsOnEdge, IsTrueNo}
+use Rattle.gouge_checker.specs.Law.{IsTrueVerdict}
 use Rattle.gouge_checker.specs.Verdict.{IsFaultOf, IsVerdict}
 use Rattle.gouge_checker.specs.declared.verdict.Verdict.{Verdict}
 use Rattle.gouge_checker.specs.declared.verdict.Verdict.TheVariants.{Clear, TooDeep, Gouge, Outside}
@@ -63,7 +64,7 @@ module _ (edges : List Seg) (cone : Cone) (some : 1 ≤ cone.sn) where
   no_here move moves (Gouge line edge) fault = here line (IsOnEdge edges edge) move moves fault.0 (gouge_harms move.mv edge fault.1.deep fault.1.meets)
   no_here move moves (Outside line) fault = here line IsAnyPoint move moves fault.0 (outside_harms move.mv fault.1.deep fault.1.meets)
 
-  pub true_no : (moves : List LineMove) (verdict : Verdict) → IsVerdict edges cone moves verdict → IsTrueNo edges cone moves verdict
+  true_no : (moves : List LineMove) (verdict : Verdict) → IsVerdict edges cone moves verdict → IsTrueNo edges cone moves verdict
   true_no [] verdict is = subst (IsTrueNo edges cone []) (sym is) tt
   true_no (move ∷ moves) verdict (inl clear) = no_later move moves verdict (true_no moves verdict clear.1)
   true_no (move ∷ moves) verdict (inr fault) = no_here move moves verdict fault
@@ -118,9 +119,16 @@ module _ (loops : List (List GridPoint)) (cone : Cone) (some : 1 ≤ cone.sn) wh
       (safe_is_clear (edges_of loops) cone move.mv some (fit.narrow 0 move (omega arith)) (fit.safe 0 move (omega arith))) fault)
 
   -- the verdict is clear exactly where no move is too deep and all are safe
-  pub clear_is_fit : (moves : List LineMove) (verdict : Verdict) → IsVerdict (edges_of loops) cone moves verdict
+  clear_is_fit : (moves : List LineMove) (verdict : Verdict) → IsVerdict (edges_of loops) cone moves verdict
       → (verdict ≡ Clear) ↔ IsFit (edges_of loops) cone moves
   clear_is_fit moves verdict is = (
     (λ clear. fit_of_clear moves (subst (IsVerdict (edges_of loops) cone moves) clear is)),
     (λ fit. clear_of_fit moves verdict is fit),
   )
+
+-- ---- so every verdict is true
+pub verdict_is_true : (loops : List (List GridPoint)) (cone : Cone) (moves : List LineMove) (verdict : Verdict) → 1 ≤ cone.sn
+    → IsVerdict (edges_of loops) cone moves verdict → IsTrueVerdict (edges_of loops) cone moves verdict
+verdict_is_true loops cone moves verdict some is =
+    let exact = clear_is_fit loops cone some moves verdict is in
+    record { safe = λ clear. (exact.0 clear).safe; exact = exact; harm = true_no (edges_of loops) cone some moves verdict is }
