@@ -2,8 +2,10 @@
 pub mod Commands
 pub mod Due
 pub mod Given
+pub mod Judging
 pub mod Line
 pub mod Outcome
 pub mod Refusals
 pub mod Stored
+pub mod Streamed
 pub mod Top

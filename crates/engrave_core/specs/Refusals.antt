@@ -11,6 +11,8 @@ use Rattle.shop_port.specs.declared.loading.LoadFault.{LoadFault}
 use Rattle.shop_port.specs.declared.loading.LoadFault.TheVariants as load
 use Rattle.engrave_core.specs.declared.refusal.Refusal.{Refusal}
 use Rattle.engrave_core.specs.declared.refusal.Refusal.TheVariants as refusal
+use Rattle.engrave_core.specs.declared.stream.StreamFault.{StreamFault}
+use Rattle.engrave_core.specs.declared.stream.StreamFault.TheVariants as stream
 use Rattle.carve_plan.specs.declared.fault.PlanFault.{PlanFault}
 use Rattle.carve_plan.specs.declared.fault.PlanFault.TheVariants as plan
 use Rattle.coverage_report.specs.declared.fault.CoverFault.{CoverFault}
@@ -50,6 +52,13 @@ loops_refusal fault = loops_refusal_by fault.kind fault
 abbrev pub code_refusal : FinishFault → Refusal
 code_refusal (finish.Code fault) = refusal.Input (CodeOf fault)
 code_refusal finish.Memory = refusal.Memory
+
+-- the refusal of a stored G-code program that has no verdict
+abbrev pub stream_refusal : StreamFault → Refusal
+stream_refusal stream.Absent = refusal.Absent Code
+stream_refusal stream.ReadFault = refusal.ReadFault
+stream_refusal stream.TooLong = refusal.Input (TooLong Code)
+stream_refusal (stream.Code fault) = refusal.Input (CodeOf fault)
 
 -- the refusal of a step by which a drawing's contacts can't be listed
 abbrev pub contact_refusal : ContactFault → Refusal

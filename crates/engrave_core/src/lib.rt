@@ -5,11 +5,14 @@
 
 mod commands;
 mod files;
+mod judged;
 mod line;
 mod outcome;
 mod refusal;
+mod stream;
 mod top;
 
 pub use carve_plan::{PlanFault, plan};
 pub use outcome::{InputFault, Kind, Outcome, Which, status};
+pub use stream::{StreamFault, check_stream};
 pub use top::engrave;

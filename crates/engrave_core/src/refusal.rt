@@ -2,6 +2,7 @@
 ghost use Rattle.std.specs.Prelude.{◌≡◌};
 
 use crate::outcome::{InputFault, Kind, Outcome, Which};
+use crate::stream::StreamFault;
 use carve_plan::PlanFault;
 use coverage_report::CoverFault;
 use gcode_text::FinishFault;
@@ -90,6 +91,21 @@ impl From<FinishFault> for Refusal {
         match fault {
             FinishFault::Code(fault) => Refusal::Input(InputFault::Code(fault)),
             FinishFault::Memory => Refusal::Memory,
+        }
+    }
+}
+
+impl From<StreamFault> for Refusal {
+    ghost use Rattle.engrave_core.specs.Refusals.{stream_refusal};
+
+    ghost from_gives = { λ fault refusal. refusal ≡ stream_refusal fault };
+
+    fn from(fault: StreamFault) -> Refusal {
+        match fault {
+            StreamFault::Absent => Refusal::Absent(Which::Code),
+            StreamFault::ReadFault => Refusal::ReadFault,
+            StreamFault::TooLong => Refusal::Input(InputFault::TooLong(Which::Code)),
+            StreamFault::Code(fault) => Refusal::Input(InputFault::Code(fault)),
         }
     }
 }

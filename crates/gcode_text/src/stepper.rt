@@ -58,7 +58,7 @@ impl Stepper {
 
     /// Takes those of the next bytes that end no line, as far as there is room for them, and says how many it took. They report
     /// nothing. It may take none: `byte` takes each.
-    pub(crate) fn take_line(&mut self, bytes: &[u8]) -> usize
+    pub fn take_line(&mut self, bytes: &[u8]) -> usize
         requires { self.old.fed + length bytes.now ≤ MOST_CODE_BYTES }
         ensures within { result ≤ length bytes.now }
         ensures after { self.new ≡ after self.old (take result bytes.now) }

@@ -1,7 +1,16 @@
 // `check`: the verdict on a G-code program, over a drawing.
 ghost use Rattle.std.specs.Prelude.{◌≤◌};
 
-use super::{ANGLE, DOWN, LENIENT, NEVER, SQUARE, expect, run};
+use super::{ANGLE, DOWN, LENIENT, NEVER, SQUARE, expect, run, shelf};
+use depth_rule::Scene;
+use engrave_core::{StreamFault, check_stream};
+use gcode_text::{CodeFault, CodeKind};
+use gouge_checker::Verdict;
+use grid_num::Units;
+use loops_text::read_loops;
+use plane_exact::Bit;
+use shop_port::MemDepot;
+use std::alloc::Global;
 use std::test::Fail;
 
 /// A square of four grid units.
@@ -219,5 +228,57 @@ fn a_program_read_in_pieces_is_the_same_program(rt: HostRuntime) -> Result<(), F
             "{per_call}"
         );
     }
+    Ok(())
+}
+
+/// What the code is judged as over the L, read through a buffer of so many bytes, where the read of this number fails.
+fn judged(
+    alloc: Global,
+    code: &str,
+    room: usize,
+    failing: u64,
+) -> Result<Result<(Verdict, u32), StreamFault>, Fail>
+    requires { 1 ≤ room }
+{
+    let scene = Scene::new(alloc, read_loops(alloc, ANGLE.as_bytes())?)?;
+    let bit = Bit::new(1, 1, 200).ok_or("bit")?;
+    let mut depot = MemDepot::new(shelf(alloc, ANGLE, code)?, 65_536, [failing].to_vec(alloc)?);
+    let mut buffer = vec![in alloc; 0; room]?;
+    Ok(check_stream(&scene, &bit, Units::Mm100, &mut depot, "c", &mut buffer))
+}
+
+#[test]
+fn the_buffer_may_have_any_room(rt: HostRuntime) -> Result<(), Fail> {
+    for room in [1, 2, 3, 65_536] {
+        assert!(rt; 1 <= room);
+        let answer = judged(rt.alloc(), LENIENT, room, NEVER)?;
+        assert_eq!(rt; answer, Ok((Verdict::Clear, 3)), "{room} bytes");
+    }
+    Ok(())
+}
+
+#[test]
+fn a_failing_read_is_answered_whatever_came_before_it(rt: HostRuntime) -> Result<(), Fail> {
+    // One read takes each of these codes whole, and a second one finds the file's end: behind a fault of the code, behind a move
+    // that gouges, and behind the end word.
+    for (code, answer) in [
+        (
+            "G2",
+            Err(StreamFault::Code(CodeFault {
+                line: 1,
+                kind: CodeKind::Word,
+            })),
+        ),
+        (ROUND, Ok((Verdict::Gouge { line: 5, edge: 2 }, 2))),
+        (DOWN, Ok((Verdict::Clear, 2))),
+    ] {
+        let whole = judged(rt.alloc(), code, 65_536, NEVER)?;
+        assert_eq!(rt; whole, answer, "{code}");
+        let cut = judged(rt.alloc(), code, 65_536, 2)?;
+        assert_eq!(rt; cut, Err(StreamFault::ReadFault), "{code}");
+    }
+    // And where it comes in the middle of the line that has the fault.
+    let cut = judged(rt.alloc(), "G2", 1, 2)?;
+    assert_eq!(rt; cut, Err(StreamFault::ReadFault));
     Ok(())
 }
