@@ -1,6 +1,7 @@
 //! The top call: from the words of a command and the bytes of its files to the outcome and the written text.
 //!
-//! The whole promise is in the clauses of `engrave`, first `safe`, `carved`, `covered`, `exact` and `due`.
+//! The whole promise is in the clauses of `engrave`, first `safe`, `carved`, `covered`, `exact` and `due`. `check_stream` gives the
+//! verdict of `check` without the words and the text.
 #![tactic(auto)]
 
 mod commands;
