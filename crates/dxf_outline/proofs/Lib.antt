@@ -1,0 +1,8 @@
+-- The lemmas of the crate.
+pub mod Blanks
+pub mod Drawn
+pub mod Kept
+pub mod Streams
+pub mod Taking
+pub mod Through
+pub mod Walking
