@@ -1,5 +1,5 @@
 // `check`: the verdict on a G-code program, over a drawing.
-ghost use Rattle.std.specs.Prelude.{◌≤◌, None};
+ghost use Rattle.std.specs.Prelude.{◌≤◌};
 
 use super::{ANGLE, DOWN, LENIENT, NEVER, SQUARE, expect, run, shelf};
 use depth_rule::Scene;
@@ -9,7 +9,7 @@ use gouge_checker::Verdict;
 use grid_num::Units;
 use loops_text::read_loops;
 use plane_exact::Bit;
-use shop_port::{Depot, Failed, Fetch, MemDepot};
+use shop_port::MemDepot;
 use std::alloc::Global;
 use std::test::Fail;
 
@@ -231,23 +231,8 @@ fn a_program_read_in_pieces_is_the_same_program(rt: HostRuntime) -> Result<(), F
     Ok(())
 }
 
-/// What the stored code is judged as over the drawing, with a bit of 90 degrees, read through a buffer of so many bytes.
-fn judged<D: Depot>(
-    alloc: Global,
-    drawing: &str,
-    depot: &mut D,
-    room: usize,
-) -> Result<Result<(Verdict, u32), StreamFault>, Fail>
-    requires { 1 ≤ room }
-{
-    let scene = Scene::new(alloc, read_loops(alloc, drawing.as_bytes())?)?;
-    let bit = Bit::new(1, 1, 200).ok_or("bit")?;
-    let mut buffer = vec![in alloc; 0; room]?;
-    Ok(check_stream(&scene, &bit, Units::Mm100, depot, "c", &mut buffer))
-}
-
-/// The same of a code over the L, where the read of this number fails.
-fn judged_in_memory(
+/// What the code is judged as over the L, read through a buffer of so many bytes, where the read of this number fails.
+fn judged(
     alloc: Global,
     code: &str,
     room: usize,
@@ -255,41 +240,19 @@ fn judged_in_memory(
 ) -> Result<Result<(Verdict, u32), StreamFault>, Fail>
     requires { 1 ≤ room }
 {
+    let scene = Scene::new(alloc, read_loops(alloc, ANGLE.as_bytes())?)?;
+    let bit = Bit::new(1, 1, 200).ok_or("bit")?;
     let mut depot = MemDepot::new(shelf(alloc, ANGLE, code)?, 65_536, [failing].to_vec(alloc)?);
-    judged(alloc, ANGLE, &mut depot, room)
-}
-
-/// The fault of this kind in this line.
-fn code_fault(line: u32, kind: CodeKind) -> Result<(Verdict, u32), StreamFault> {
-    Err(StreamFault::Code(CodeFault { line, kind }))
+    let mut buffer = vec![in alloc; 0; room]?;
+    Ok(check_stream(&scene, &bit, Units::Mm100, &mut depot, "c", &mut buffer))
 }
 
 #[test]
 fn the_buffer_may_have_any_room(rt: HostRuntime) -> Result<(), Fail> {
     for room in [1, 2, 3, 65_536] {
         assert!(rt; 1 <= room);
-        for (code, answer) in [
-            (LENIENT, Ok((Verdict::Clear, 3))),
-            (DOWN, Ok((Verdict::Clear, 2))),
-            (ROUND, Ok((Verdict::Gouge { line: 5, edge: 2 }, 2))),
-            (
-                "G0 Z2\nG0 X3 Y3\nG1 Z-0.1",
-                Ok((Verdict::Outside { line: 3 }, 1)),
-            ),
-            (
-                "G0 Z2\r\nG0 X1 Y3\r\nG1 Z-9\r\n",
-                Ok((Verdict::TooDeep { line: 3 }, 1)),
-            ),
-            ("Z-1", code_fault(1, CodeKind::Unplaced)),
-            ("G0 X1 X2", code_fault(1, CodeKind::Twice)),
-            ("G90\n\nG91", code_fault(3, CodeKind::Incremental)),
-            ("G20", code_fault(1, CodeKind::Units)),
-            ("(a", code_fault(1, CodeKind::OpenComment)),
-            ("", Ok((Verdict::Clear, 0))),
-        ] {
-            let judged = judged_in_memory(rt.alloc(), code, room, NEVER)?;
-            assert_eq!(rt; judged, answer, "{code} by {room} bytes");
-        }
+        let answer = judged(rt.alloc(), LENIENT, room, NEVER)?;
+        assert_eq!(rt; answer, Ok((Verdict::Clear, 3)), "{room} bytes");
     }
     Ok(())
 }
@@ -298,59 +261,24 @@ fn the_buffer_may_have_any_room(rt: HostRuntime) -> Result<(), Fail> {
 fn a_failing_read_is_answered_whatever_came_before_it(rt: HostRuntime) -> Result<(), Fail> {
     // One read takes each of these codes whole, and a second one finds the file's end: behind a fault of the code, behind a move
     // that gouges, and behind the end word.
-    for code in ["G2", ROUND, DOWN] {
-        let cut = judged_in_memory(rt.alloc(), code, 65_536, 2)?;
+    for (code, answer) in [
+        (
+            "G2",
+            Err(StreamFault::Code(CodeFault {
+                line: 1,
+                kind: CodeKind::Word,
+            })),
+        ),
+        (ROUND, Ok((Verdict::Gouge { line: 5, edge: 2 }, 2))),
+        (DOWN, Ok((Verdict::Clear, 2))),
+    ] {
+        let whole = judged(rt.alloc(), code, 65_536, NEVER)?;
+        assert_eq!(rt; whole, answer, "{code}");
+        let cut = judged(rt.alloc(), code, 65_536, 2)?;
         assert_eq!(rt; cut, Err(StreamFault::ReadFault), "{code}");
     }
     // And where it comes in the middle of the line that has the fault.
-    let cut = judged_in_memory(rt.alloc(), "G2", 1, 2)?;
+    let cut = judged(rt.alloc(), "G2", 1, 2)?;
     assert_eq!(rt; cut, Err(StreamFault::ReadFault));
-    Ok(())
-}
-
-/// A file that begins with a text and goes on with blanks, of so many bytes in all.
-#[derive(Drop)]
-struct LongDepot {
-    front: &'static str,
-    length: u64,
-}
-
-impl Depot for LongDepot {
-    ghost held = { λ _. None };
-
-    ghost faults = { λ _. 0 };
-
-    ghost misses = { λ _. 0 };
-
-    fn read(&mut self, _name: &str, at: u64, into: &mut [u8]) -> Result<Fetch, Failed> {
-        let room = into.len() as u64;
-        into.fill(b' ');
-        if at == 0 {
-            for (place, byte) in into.iter_mut().zip(self.front.as_bytes()) {
-                *place = *byte;
-            }
-        }
-        Ok(Fetch::Got(room.min(self.length.saturating_sub(at)) as usize))
-    }
-}
-
-#[test]
-fn too_long_a_program_is_answered_whatever_came_before_its_end(
-    rt: HostRuntime,
-) -> Result<(), Fail> {
-    for (front, length, answer) in [
-        ("G2\n", 536_870_913, Err(StreamFault::TooLong)),
-        ("M2\n", 536_870_913, Err(StreamFault::TooLong)),
-        (ROUND, 536_870_913, Err(StreamFault::TooLong)),
-        (
-            ROUND,
-            536_870_912,
-            Ok((Verdict::Gouge { line: 5, edge: 2 }, 2)),
-        ),
-    ] {
-        let mut depot = LongDepot { front, length };
-        let judged = judged(rt.alloc(), ANGLE, &mut depot, 65_536)?;
-        assert_eq!(rt; judged, answer, "{front} in {length} bytes");
-    }
     Ok(())
 }
