@@ -310,6 +310,8 @@ def is_in_form(case, status):
         return line == b""
     if (command, status) == (b"carve", 0):
         return line == b"M2\n" and listed >= 5
+    if (command, status) == (b"cover", 0):
+        return form.fullmatch(line) is not None
     if (command, status) == (b"moves", 0):
         return line == b"moves %d\n" % listed
     return form is not None and listed == 0 and form.fullmatch(line) is not None

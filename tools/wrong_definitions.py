@@ -1,7 +1,7 @@
 """Wrong definitions, which the comparison has to find out; of each the function that it replaces, and the wrong one.
 
 To count a row's edges by `<` in place of `<=`, or a crossing at the point itself, isn't wrong: off the outline it
-changes nothing.
+changes nothing. Nor is it to leave out a side of a report's box: no point on it is inside.
 """
 
 import math
@@ -67,7 +67,7 @@ def pieces_of_rounded_length(edge, step):
     return max(1, length_down(edge) // step)
 
 
-CHAINS, CHAIN_LINES, MULTIPLES = d.chains_along, d.chain_lines, d.multiples
+CHAINS, CHAIN_LINES = d.chains_along, d.chain_lines
 
 
 def always_lifted(edges, bit, limit, p, q, halvings):
@@ -105,10 +105,6 @@ def above_the_surface_too(bit, mv, w):
 
 def from_the_corner(pitch, low, high):
     return range(low, high + 1, pitch)
-
-
-def to_the_last_but_one(pitch, low, high):
-    return MULTIPLES(pitch, low, high - 1)
 
 
 def run_by_point(points, left):
@@ -160,7 +156,6 @@ WRONG = {
     "rim-removed": ("removes", on_the_rim_too),
     "removed-above-the-surface": ("removes", above_the_surface_too),
     "points-from-the-corner": ("multiples", from_the_corner),
-    "side-left-out": ("multiples", to_the_last_but_one),
     "a-run-a-point": ("runs_of_row", run_by_point),
     "first-move-alone": ("is_left", lambda bit, moves, w: not moves or not d.removes(bit, moves[0], w)),
 }
