@@ -1,6 +1,5 @@
 -- The definitions of the crate.
 pub mod Around
-pub mod Crossing
 pub mod Greatest
 pub mod Kept
 pub mod Law

@@ -10,7 +10,7 @@ ghost use Rattle.swept_move.specs.Clear.{PassesEdge};
 ghost use Rattle.depth_rule.specs.Around.{IsAround};
 
 use lane_kernels::Rect;
-use plane_exact::{Bit, MOST_RADIUS, Move, Point, Spot};
+use plane_exact::{Bit, MOST_RADIUS, Move, Point};
 use swept_move::reach_of;
 
 /// A box round the disc that the bit cuts over `p` at the depth `z`.
@@ -34,29 +34,14 @@ pub fn move_box(mv: &Move, bit: &Bit) -> Rect
     ensures { (e : Seg) → is_met result (box_of e) ≡ false → PassesEdge bit.now mv.now e }
 {
     let reach = reach_of(mv, bit);
-    let across = span_around(x_of(mv.from), x_of(mv.to), reach);
-    let up = span_around(y_of(mv.from), y_of(mv.to), reach);
+    let across = span_around(mv.from.across(), mv.to.across(), reach);
+    let up = span_around(mv.from.up(), mv.to.up(), reach);
     Rect {
         x0: across.low,
         y0: up.low,
         x1: across.high,
         y1: up.high,
     }
-}
-
-// Where the spot is along the axes, in tenths of a grid unit.
-fn x_of(spot: Spot) -> i32
-    ensures value { result ≡ spot.at.x }
-    ensures range { IsFineCoordinate result }
-{
-    spot.x
-}
-
-fn y_of(spot: Spot) -> i32
-    ensures value { result ≡ spot.at.y }
-    ensures range { IsFineCoordinate result }
-{
-    spot.y
 }
 
 // A range of an axis, in grid units.

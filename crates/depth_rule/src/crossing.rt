@@ -1,13 +1,14 @@
 // The first pair of edges of a drawing that cross or overlap.
-ghost use Rattle.std.specs.Prelude.{◌≡◌, ◌≢◌, ◌⊎◌, ◌↔◌, ◌<◌, ℕ, IfSome, IfNone, IsTrue, length};
-ghost use Rattle.engrave_model.specs.Crossing.{IsCrossPair, IsCrossing};
+ghost use Rattle.std.specs.Prelude.{◌≡◌, ◌≢◌, ◌⊎◌, ◌<◌, ℕ, length};
+ghost use Rattle.engrave_model.specs.Crossing.{IsCrossing};
 ghost use Rattle.engrave_model.specs.Drawing.{edges_of};
-ghost use Rattle.depth_rule.specs.Crossing.{IsFirstCrossed};
+ghost use Rattle.loops_text.specs.Crossing.{IsFirstCrossed};
 ghost use Rattle.depth_rule.specs.Least.{AtMost};
 
 use crate::least::is_at_most;
 use crate::scene::Scene;
-use plane_exact::{Meet, Seg, cross_kind};
+use loops_text::crosses;
+use plane_exact::Seg;
 use segment_grid::box_of;
 
 impl Scene {
@@ -56,17 +57,5 @@ fn lesser_crossed(least: Option<u32>, i: u32, j: u32, first: &Seg, second: &Seg)
         Some(j)
     } else {
         least
-    }
-}
-
-/// Whether the segments cross or overlap. The ends of each differ.
-fn crosses(s: &Seg, t: &Seg) -> bool
-    requires first { s.now.a ≢ s.now.b }
-    requires second { t.now.a ≢ t.now.b }
-    ensures { IsTrue result ↔ IsCrossing s.now t.now }
-{
-    match cross_kind(*s, *t) {
-        Meet::Crosses | Meet::Overlaps => true,
-        Meet::Apart | Meet::AtEnds => false,
     }
 }

@@ -20,5 +20,5 @@ pub use decimal::{Decimal, MOST_DIGITS, NumFault, read_decimal};
 pub use real::{MOST_EXPONENT_DIGITS, read_real};
 pub use root::isqrt;
 pub use units::Units;
-pub use whole::{MOST_WHOLE_DIGITS, read_whole, read_whole_pair};
+pub use whole::{MOST_WHOLE_DIGITS, read_digits, read_whole, read_whole_pair};
 pub use writer::write_decimal;

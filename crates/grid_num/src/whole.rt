@@ -27,8 +27,8 @@ pub fn read_whole_pair(text: &[u8], separator: u8) -> Option<(i32, i32)>
     Some((read_whole(first)?, read_whole(second)?))
 }
 
-// The number that one to nine digits write in base 10.
-fn read_digits(text: &[u8]) -> Option<u32>
+/// The number that one to nine digits write, or None for any other text.
+pub fn read_digits(text: &[u8]) -> Option<u32>
     ensures value { result ≡ digits_of text.now }
     ensures range { IfSome result (λ n. n < 10 ^ 9) }
 {

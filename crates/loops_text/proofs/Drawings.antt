@@ -1,18 +1,18 @@
 -- The edges of a drawing and the loop of each, and what one more loop adds.
 use Rattle.std.proofs.Common.{◌≡◌, ◌≢◌, ℕ, ◌+◌, ◌-◌, ◌<◌, ◌≤◌, Bool, true, false, cond, suc, Option, None, Some, List, [], ◌∷◌, ◌++◌, length, map, get_or, replicate, sum_by, All, sym, ap, ◌∙◌, refl, inl, inr, add-zero, zero-add, arith, append_assoc, length-append}
 use Rattle.std.specs.List.{list_any}
-use Rattle.std.specs.Ordering.{int_eq}
 use Rattle.std.proofs.lemmas.List.Elements.{All-cons, All-head, All-nil, All-push, All-tail}
 use Rattle.std.proofs.lemmas.List.Sums.{sum_by_push, sum_by-cons}
 use Rattle.std.proofs.lemmas.Grind.{common_steps}
 use Rattle.std.proofs.lemmas.List.{append-nil, get_or-append_right, get_or-replicate, get_or_append_left, length-map, length-replicate, map_push}
-use Rattle.std.proofs.lemmas.Bool.Decides.{Decides-int_eq}
-use Rattle.std.proofs.lemmas.Bool.{cases_lt, le-ltb, lt-ltb, ltb-false, or_parts, and_from, both_ways}
+use Rattle.std.proofs.lemmas.Bool.{cases_lt, le-ltb, lt-ltb, ltb-false, or_parts}
 use Rattle.plane_exact.specs.Plane.{GridPoint}
+use Rattle.plane_exact.specs.Same.{same_point}
 use Rattle.plane_exact.specs.declared.point.Seg.{Seg}
+use Rattle.plane_exact.proofs.Differing.{same_point-false}
 use Rattle.engrave_model.specs.Drawing.{AreOnGrid, IsDrawing, IsLoop, edges_back_to, edges_of, edges_of_loop, most_edges}
 use Rattle.loops_text.specs.declared.drawing.PushFault.TheVariants.{TooMany}
-use Rattle.loops_text.specs.Edges.{loop_number, push_fault, same_point}
+use Rattle.loops_text.specs.Edges.{loop_number, push_fault}
 use Rattle.loops_text.specs.Kept.{IsKept, numbers_from}
 
 -- as many edges as points
@@ -70,10 +70,6 @@ number_at number (points ∷ loops) e inside =
     ]
 
 -- ---- one more loop
-same_point-false : (p q : GridPoint) → same_point p q ≡ false → p ≢ q
-same_point-false p q differ same =
-    both_ways (same_point p q) differ (and_from (int_eq p.x q.x) (int_eq p.y q.y) ((Decides-int_eq p.x q.x).1 (ap (λ r. r.x) same)) ((Decides-int_eq p.y q.y).1 (ap (λ r. r.y) same)))
-
 all_distinct : (edges : List Seg) → list_any (λ e. same_point e.a e.b) edges ≡ false → All (λ e. e.a ≢ e.b) edges
 all_distinct [] none = All-nil (λ e. e.a ≢ e.b)
 all_distinct (e ∷ edges) none =

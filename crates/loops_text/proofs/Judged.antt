@@ -7,13 +7,14 @@ use Rattle.grid_num.specs.Judging.{and_then}
 use Rattle.text_lines.specs.Pieces.{Piece}
 use Rattle.plane_exact.specs.Plane.{GridPoint}
 use Rattle.engrave_model.specs.Drawing.{edges_back_to, edges_of_loop, most_edges}
-use Rattle.loops_text.specs.Edges.{push_fault, same_point}
+use Rattle.plane_exact.specs.Same.{same_point}
+use Rattle.loops_text.specs.Edges.{push_fault}
 use Rattle.loops_text.specs.Grammar.{closed, is_last, loop_of, next_point, point_of, points_of}
 use Rattle.loops_text.specs.declared.fault.LoopsFault.{LoopsFault}
 use Rattle.loops_text.proofs.Drawings.{push_fault-None}
 
 -- some point equals the one before it
-abbrev repeats : List GridPoint → Bool
+abbrev pub repeats : List GridPoint → Bool
 repeats [] = false
 repeats (p ∷ []) = false
 repeats (p ∷ q ∷ points) = same_point p q || repeats (q ∷ points)
@@ -22,18 +23,18 @@ or_assoc : (a b c : Bool) → (a || (b || c)) ≡ ((a || b) || c)
 or_assoc true b c = refl
 or_assoc false b c = refl
 
-or_false : (a : Bool) → (a || false) ≡ a
+pub or_false : (a : Bool) → (a || false) ≡ a
 or_false true = refl
 or_false false = refl
 
-repeats_push : (earlier : List GridPoint) (p : GridPoint) → repeats (earlier ++ p ∷ []) ≡ (repeats earlier || is_last earlier p)
+pub repeats_push : (earlier : List GridPoint) (p : GridPoint) → repeats (earlier ++ p ∷ []) ≡ (repeats earlier || is_last earlier p)
 repeats_push [] p = refl
 repeats_push (q ∷ []) p = or_false (same_point q p)
 repeats_push (q ∷ r ∷ earlier) p =
     ap (λ rest. same_point q r || rest) (repeats_push (r ∷ earlier) p) ∙ or_assoc (same_point q r) (repeats (r ∷ earlier)) (is_last (r ∷ earlier) p)
 
 -- the edges of a loop begin and end apart, if its points do and it is closed
-edges_apart : (first p : GridPoint) (points : List GridPoint) → list_any (λ e. same_point e.a e.b) (edges_back_to first (p ∷ points)) ≡ (repeats (p ∷ points) || is_last (p ∷ points) first)
+pub edges_apart : (first p : GridPoint) (points : List GridPoint) → list_any (λ e. same_point e.a e.b) (edges_back_to first (p ∷ points)) ≡ (repeats (p ∷ points) || is_last (p ∷ points) first)
 edges_apart first p [] = or_false (same_point p first)
 edges_apart first p (q ∷ points) =
     ap (λ rest. same_point p q || rest) (edges_apart first q points) ∙ or_assoc (same_point p q) (repeats (q ∷ points)) (is_last (q ∷ points) first)

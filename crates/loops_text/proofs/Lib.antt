@@ -1,4 +1,6 @@
 -- The lemmas of the crate.
+pub mod Crossings
 pub mod Drawings
 pub mod Judged
 pub mod Reading
+pub mod ReadBack

@@ -5,7 +5,8 @@ use Rattle.grid_num.specs.Judging.{and_then}
 use Rattle.text_lines.specs.Pieces.{Piece, words_of}
 use Rattle.plane_exact.specs.Plane.{GridPoint}
 use Rattle.engrave_model.specs.Drawing.{edges_of, most_edges}
-use Rattle.loops_text.specs.Edges.{push_fault, same_point}
+use Rattle.plane_exact.specs.Same.{same_point}
+use Rattle.loops_text.specs.Edges.{push_fault}
 use Rattle.loops_text.specs.Grammar.{is_last, is_skipped, loop_of, loops_from, next_point, place_of_first, place_of_last, points_of}
 use Rattle.loops_text.proofs.Drawings.{length-edges_of}
 use Rattle.loops_text.proofs.Judged.{push_fault-after_loop_of}

@@ -1,8 +1,8 @@
 -- Where in a drawing an edge stands, and what keeps a loop out of it.
-use Rattle.std.specs.Prelude.{ℕ, ◌+◌, ◌-◌, Bool, ◌&&◌, if◌then◌else◌, Option, Some, None, List, [], ◌∷◌, length, sum_by, nat_lt}
+use Rattle.std.specs.Prelude.{ℕ, ◌+◌, ◌-◌, if◌then◌else◌, Option, Some, None, List, [], ◌∷◌, length, sum_by, nat_lt}
 use Rattle.std.specs.List.{list_any}
-use Rattle.std.specs.Ordering.{int_eq}
 use Rattle.plane_exact.specs.Plane.{GridPoint}
+use Rattle.plane_exact.specs.Same.{same_point}
 use Rattle.engrave_model.specs.Drawing.{edges_of_loop, most_edges}
 use Rattle.loops_text.specs.declared.drawing.PushFault.{PushFault}
 use Rattle.loops_text.specs.declared.drawing.PushFault.TheVariants.{Short, SamePoint, TooMany}
@@ -11,10 +11,6 @@ use Rattle.loops_text.specs.declared.drawing.PushFault.TheVariants.{Short, SameP
 abbrev pub loop_number : List (List GridPoint) → ℕ → ℕ
 loop_number [] e = 0
 loop_number (points ∷ loops) e = if nat_lt e (length points) then 0 else loop_number loops (e - length points) + 1
-
--- the two points have the same numbers
-abbrev pub same_point : GridPoint → GridPoint → Bool
-same_point p q = int_eq p.x q.x && int_eq p.y q.y
 
 -- the first rule that the drawing would break with this loop at its end
 abbrev pub push_fault : List (List GridPoint) → List GridPoint → Option PushFault

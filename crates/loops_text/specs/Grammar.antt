@@ -5,7 +5,7 @@ use Rattle.text_lines.specs.Pieces.{Piece, lines_of, words_of}
 use Rattle.grid_num.specs.Whole.{pair_of}
 use Rattle.plane_exact.specs.Plane.{GridPoint, is_coordinate}
 use Rattle.engrave_model.specs.Drawing.{most_edges}
-use Rattle.loops_text.specs.Edges.{same_point}
+use Rattle.plane_exact.specs.Same.{same_point}
 use Rattle.loops_text.specs.declared.fault.LoopsFault.{LoopsFault}
 use Rattle.loops_text.specs.declared.fault.LoopsKind.{LoopsKind}
 use Rattle.loops_text.specs.declared.fault.LoopsKind.TheVariants.{Syntax, Short, SamePoint, OutOfRange, TooMany}

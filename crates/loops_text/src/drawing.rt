@@ -1,12 +1,12 @@
 // Drawings: closed loops of grid points, kept with their edges in order.
 ghost use Rattle.std.specs.Prelude.{◌≡◌, ◌≢◌, ◌+◌, ◌<◌, ◌≤◌, ◌++◌, ◌∷◌, [], false, None, Some, MatchResult, OnErr, OnOk, length, replicate, vec_capacity, vec_len};
 ghost use Rattle.std.specs.List.{list_any, slice_get};
-ghost use Rattle.plane_exact.specs.Plane.{IsOnGrid};
+ghost use Rattle.plane_exact.specs.Same.{same_point};
 ghost use Rattle.engrave_model.specs.Drawing.{AreOnGrid, IsDrawing, edges_of, edges_of_loop};
-ghost use Rattle.loops_text.specs.Edges.{loop_number, push_fault, same_point};
+ghost use Rattle.loops_text.specs.Edges.{loop_number, push_fault};
 
 use engrave_model::MOST_EDGES;
-use plane_exact::{Point, Seg};
+use plane_exact::{Point, Seg, is_same_point};
 use std::alloc::{AllocError, Global};
 use std::marker::Model;
 
@@ -173,13 +173,6 @@ fn repeats_a_point(points: &[Point]) -> bool
         before = *point;
     }
     is_same_point(before, *first)
-}
-
-pub(crate) fn is_same_point(p: Point, q: Point) -> bool
-    ensures value { result ≡ same_point p q }
-    ensures on_grid { IsOnGrid q.x q.y }
-{
-    p.x() == q.x() && p.y() == q.y()
 }
 
 // Appends the loop's edges, for which there is room.

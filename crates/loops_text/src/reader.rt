@@ -6,11 +6,11 @@ ghost use Rattle.text_lines.specs.Cutting.{piece_of};
 ghost use Rattle.text_lines.specs.Pieces.{words_of};
 ghost use Rattle.loops_text.specs.Grammar.{closed, is_last, is_skipped, loop_of, loops_of, next_point, place_of_first, point_of};
 
-use crate::drawing::{Drawing, PushFault, is_same_point};
+use crate::drawing::{Drawing, PushFault};
 use crate::fault::{LoopsFault, LoopsKind, OUT_OF_MEMORY};
 use engrave_model::MOST_EDGES;
 use grid_num::read_whole_pair;
-use plane_exact::Point;
+use plane_exact::{Point, is_same_point};
 use std::alloc::Global;
 use text_lines::{Lines, Piece, Words};
 

@@ -1,7 +1,9 @@
 // Files in loops form with what docs/COMMANDS.md says of them, and each call of a drawing once.
+use crate::crossing::crosses;
 use crate::drawing::{Drawing, PushFault};
 use crate::fault::{LoopsFault, LoopsKind};
 use crate::reader::read_loops;
+use crate::writer::write_loops;
 use plane_exact::{Point, Seg};
 use std::alloc::{AllocError, Global};
 use std::test::Fail;
@@ -49,36 +51,21 @@ const TEXTS: [(&[u8], &str); 38] = [
 ];
 
 #[test]
-fn reads_what_the_manual_says(rt: HostRuntime) -> Result<(), Fail> {
+fn reads_and_writes_as_the_manual_says(rt: HostRuntime) -> Result<(), Fail> {
     for (text, want) in TEXTS {
         assert!(rt; text.len() < 100);
         let answer = described(rt.alloc(), read_loops(rt.alloc(), text))?;
-        assert_eq!(rt; answer.as_str(), want, "at {text:?}");
+        assert_eq!(rt; answer.as_slice(), want.as_bytes(), "at {text:?}");
     }
     Ok(())
 }
 
-// The loops of a drawing, or the fault.
-fn described(alloc: Global, answer: Result<Drawing, LoopsFault>) -> Result<String, AllocError> {
+// The drawing as it is written, or the fault.
+fn described(alloc: Global, answer: Result<Drawing, LoopsFault>) -> Result<Vec<u8>, AllocError> {
     match answer {
-        Ok(drawing) => outline(alloc, &drawing),
-        Err(LoopsFault { at, kind }) => format!(in alloc; "{at} {kind:?}"),
+        Ok(drawing) => write_loops(alloc, &drawing),
+        Err(LoopsFault { at, kind }) => Ok(format!(in alloc; "{at} {kind:?}")?.into_bytes()),
     }
-}
-
-fn outline(alloc: Global, drawing: &Drawing) -> Result<String, AllocError> {
-    let mut lines = String::new(alloc);
-    for i in 0..drawing.loops() {
-        let mut before = "";
-        for point in drawing.points(i) {
-            let x = point.x();
-            let y = point.y();
-            write!(lines, "{before}{x},{y}")?;
-            before = " ";
-        }
-        lines.push('\n')?;
-    }
-    Ok(lines)
 }
 
 #[test]
@@ -123,5 +110,26 @@ fn keeps_loops_and_edges(rt: HostRuntime) -> Result<(), Fail> {
     assert_eq!(rt; drawing.loop_of(1), 0);
     assert_eq!(rt; drawing.loop_of(2), 1);
     assert_eq!(rt; drawing.all_edges().last(), Some(&Seg { a: b, b: c }));
+    Ok(())
+}
+
+#[test]
+fn tells_which_segments_cross(rt: HostRuntime) -> Result<(), Fail> {
+    let from = Point::new(0, 0).ok_or("from")?;
+    let to = Point::new(4, 0).ok_or("to")?;
+    let s = Seg { a: from, b: to };
+    // From the first point to the second: across, on from its middle, along a part of it, on from its end, and beside it.
+    for (x, y, to_x, to_y, want) in [
+        (1, 1, 3, -1, true),
+        (2, 0, 2, 5, true),
+        (1, 0, 9, 0, true),
+        (4, 0, 4, 5, false),
+        (0, 1, 4, 1, false),
+    ] {
+        let a = Point::new(x, y).ok_or("a")?;
+        let b = Point::new(to_x, to_y).ok_or("b")?;
+        assert!(rt; from != to && a != b);
+        assert_eq!(rt; crosses(&s, &Seg { a, b }), want, "to {b:?}");
+    }
     Ok(())
 }

@@ -5,6 +5,8 @@ pub mod Stored
 pub mod Ranges
 pub mod Wide
 pub mod Signs
+-- `is_same_point`
+pub mod Differing
 -- `dist_at_least`
 pub mod Fractions
 pub mod Ways

@@ -7,4 +7,5 @@ pub mod Moves
 pub mod Nodes
 pub mod Plane
 pub mod Product
+pub mod Same
 pub mod Uncut

@@ -1,6 +1,6 @@
 // Straight moves of the bit's tip, and what is asked of them.
 ghost use Rattle.std.specs.Prelude.{◌≡◌, ◌↔◌, ◌≤◌, IsTrue};
-ghost use Rattle.plane_exact.specs.Heights.{IsHeight};
+ghost use Rattle.plane_exact.specs.Heights.{IsFineCoordinate, IsHeight};
 ghost use Rattle.plane_exact.specs.Moves.{IsDeep, IsTooDeep, IsTooWide, depth_of, first_deep};
 
 use crate::bit::Bit;
@@ -40,6 +40,22 @@ impl Spot {
         ensures range { result ≤ MOST_SPOT_DEPTH }
     {
         depth_of_height(self.h)
+    }
+
+    /// Where the spot is along the x axis, in tenths of a grid unit.
+    pub fn across(&self) -> i32
+        ensures value { result ≡ self.now.at.x }
+        ensures range { IsFineCoordinate result }
+    {
+        self.x
+    }
+
+    /// Where it is along the y axis, in tenths of a grid unit.
+    pub fn up(&self) -> i32
+        ensures value { result ≡ self.now.at.y }
+        ensures range { IsFineCoordinate result }
+    {
+        self.y
     }
 }
 

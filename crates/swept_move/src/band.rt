@@ -7,7 +7,7 @@ ghost use Rattle.swept_move.specs.Band.{IsColumnBand};
 ghost use Rattle.swept_move.specs.Row.{IsBand};
 
 use crate::span::{Span, span_of};
-use plane_exact::{Bit, Move, Spot};
+use plane_exact::{Bit, Move};
 
 /// The first and the last row that the move can reach: as far below and above its ends as the bit's radius there, at most. None
 /// where it removes nothing, neither end being below the surface.
@@ -25,8 +25,8 @@ pub fn row_band(mv: &Move, bit: &Bit) -> Option<(i32, i32)>
 fn rows_of(mv: &Move, bit: &Bit) -> Span
     ensures { IsBand bit.now mv.now result.low result.high }
 {
-    let from = span_of(bit, y_of(mv.from), mv.from.depth());
-    let to = span_of(bit, y_of(mv.to), mv.to.depth());
+    let from = span_of(bit, mv.from.up(), mv.from.depth());
+    let to = span_of(bit, mv.to.up(), mv.to.depth());
     from.joined(to)
 }
 
@@ -34,23 +34,7 @@ fn rows_of(mv: &Move, bit: &Bit) -> Span
 pub fn columns_of(mv: &Move, bit: &Bit) -> Span
     ensures { IsColumnBand bit.now mv.now result.low result.high }
 {
-    let from = span_of(bit, x_of(mv.from), mv.from.depth());
-    let to = span_of(bit, x_of(mv.to), mv.to.depth());
+    let from = span_of(bit, mv.from.across(), mv.from.depth());
+    let to = span_of(bit, mv.to.across(), mv.to.depth());
     from.joined(to)
-}
-
-// The spot's coordinate along the rows.
-fn x_of(spot: Spot) -> i32
-    ensures value { result ≡ spot.at.x }
-    ensures range { IsFineCoordinate result }
-{
-    spot.x
-}
-
-// The spot's coordinate along the columns.
-fn y_of(spot: Spot) -> i32
-    ensures value { result ≡ spot.at.y }
-    ensures range { IsFineCoordinate result }
-{
-    spot.y
 }

@@ -4,8 +4,10 @@
 //! in order.
 #![tactic(auto)]
 
+mod blanks;
 mod lines;
 mod pieces;
 
+pub use blanks::without_blanks;
 pub use lines::{Lines, Words};
 pub use pieces::{Piece, Pieces, Separator, without_return};

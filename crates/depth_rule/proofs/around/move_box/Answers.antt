@@ -37,7 +37,7 @@ returns c = λ e missed.
     reach_passes c.args.bit.now mv c.reach_of-reach.result e (c.reach_of-reach.ensures.some c.requires.deep) c.requires.deep c.reach_of-reach.ensures.value
     (elim (missed_is_beyond _ e missed) [
       | inl out ↦ inl (beside mv.from.at.x mv.to.at.x _ across.low across.high _ _ e.a.x e.b.x c.span_around-across.ensures
-          c.x_of.ensures.range c.x_of.ensures.value c.x_of-2.ensures.range c.x_of-2.ensures.value left right out)
+          c.across.ensures.range c.across.ensures.value c.across-2.ensures.range c.across-2.ensures.value left right out)
       | inr out ↦ inr (beside mv.from.at.y mv.to.at.y _ up.low up.high _ _ e.a.y e.b.y c.span_around-up.ensures
-          c.y_of.ensures.range c.y_of.ensures.value c.y_of-2.ensures.range c.y_of-2.ensures.value bottom top out)
+          c.up.ensures.range c.up.ensures.value c.up-2.ensures.range c.up-2.ensures.value bottom top out)
     ])

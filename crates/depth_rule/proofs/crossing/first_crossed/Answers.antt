@@ -1,9 +1,10 @@
 -- Answers the goals of `first_crossed`.
 use Rattle.std.proofs.Common.{subst, inl, inr, ⊎_elim}
 use Rattle.engrave_model.specs.Drawing.{edges_of}
+use Rattle.loops_text.proofs.Crossings.{clear_judged, crossed_found, edge_apart}
 use Rattle.segment_grid.specs.Near.{AreNear}
 use Rattle.depth_rule.proofs.Ahead.{begun_ahead, first_there, rest_ahead}
-use Rattle.depth_rule.proofs.Crossings.{IsClearBehind, IsCrossedBehind, clear_judged, clear_missed, crossed_found, edge_apart, first_crossed}
+use Rattle.depth_rule.proofs.Crossings.{IsClearBehind, IsCrossedBehind, clear_missed, first_crossed}
 use Rattle.depth_rule.proofs.Leasts.{least_begun, least_stepped}
 use Rattle.depth_rule.proofs.crossing.first_crossed.Goals as goal
 

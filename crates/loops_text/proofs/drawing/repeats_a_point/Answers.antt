@@ -9,5 +9,5 @@ pub loop-point-preserved : goal.loop-point-preserved
 loop-point-preserved c = (
   grind (arith, common_steps),
   AllWithin-more (λ p. IsOnGrid p.x p.y) c.in-Some.rest.now 0 c.loop-point.point-index c.loop-point.invariant.1
-      (at_read c.in-Some.rest.now (λ p. IsOnGrid p.x p.y) c.loop-point.point-index c.point-item.result c.loop-point-test.true c.point-item.is c.is_same_point.ensures.on_grid),
+      (at_read c.in-Some.rest.now (λ p. IsOnGrid p.x p.y) c.loop-point.point-index c.point-item.result c.loop-point-test.true c.point-item.is c.is_same_point.ensures.second),
 )

@@ -3,7 +3,7 @@ use Rattle.std.proofs.Common.{◌≡◌, ◌∷◌, drop}
 use Rattle.std.specs.List.{AllWithin, list_any}
 use Rattle.plane_exact.specs.Plane.{IsOnGrid}
 use Rattle.engrave_model.specs.Drawing.{edges_back_to, edges_of_loop}
-use Rattle.loops_text.specs.Edges.{same_point}
+use Rattle.plane_exact.specs.Same.{same_point}
 use Rattle.loops_text.proofs.drawing.repeats_a_point.Given as goal
 
 abbrev pub invariant-loop-point : goal.invariant-loop-point

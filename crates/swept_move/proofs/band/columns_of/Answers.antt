@@ -15,6 +15,6 @@ pub returns : goal.returns
 returns c =
     let mv = c.args.mv.now in
     in_columns c.args.bit.now mv.from mv.to
-    (span_same (known c.x_of.ensures.range c.x_of.ensures.value) c.depth.ensures.value c.span_of-from.ensures)
-    (span_same (known c.x_of-2.ensures.range c.x_of-2.ensures.value) c.depth-2.ensures.value c.span_of-to.ensures)
+    (span_same (known c.across.ensures.range c.across.ensures.value) c.depth.ensures.value c.span_of-from.ensures)
+    (span_same (known c.across-2.ensures.range c.across-2.ensures.value) c.depth-2.ensures.value c.span_of-to.ensures)
     c.joined.ensures.low c.joined.ensures.high

@@ -1,6 +1,6 @@
 -- Answers the goals of `crosses`.
-use Rattle.depth_rule.proofs.Crossings.{other_clear}
-use Rattle.depth_rule.proofs.crossing.crosses.Goals as goal
+use Rattle.loops_text.proofs.Crossings.{other_clear}
+use Rattle.loops_text.proofs.crossing.crosses.Goals as goal
 
 pub returns-in-Apart : goal.returns-in-Apart
 returns-in-Apart c = (
