@@ -5,3 +5,4 @@ pub mod Roots
 pub mod Splits
 pub mod Stages
 pub mod Steps
+pub mod Straight

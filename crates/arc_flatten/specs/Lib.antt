@@ -5,4 +5,5 @@ pub mod Directions
 pub mod Grid
 pub mod Halves
 pub mod Points
+pub mod Segments
 pub mod Turns

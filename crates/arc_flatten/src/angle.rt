@@ -1,7 +1,8 @@
 // Angles as parts of a full turn.
 ghost use Rattle.std.specs.Prelude.{◌≡◌, ◌<◌, pos};
 ghost use Rattle.integer_algebra.specs.Ranges.{IsUpTo};
-ghost use Rattle.arc_flatten.specs.Turns.{turn_of};
+ghost use Rattle.plane_exact.specs.Cone.{IsFromOneTo};
+ghost use Rattle.arc_flatten.specs.Turns.{span_between, turn_of};
 
 /// The number of parts of a full turn, 2^22.
 pub const TURN: u32 = 4_194_304;
@@ -21,4 +22,15 @@ pub fn turn(micro: i64) -> u32
     (8_388_608 * micro + 360_000_000)
         .div_euclid(720_000_000)
         .rem_euclid(TURN as i64) as u32
+}
+
+/// The part of a turn from one direction counterclockwise to another, from 1 to 2^22: a full turn where they are one.
+pub fn span_between(from: u32, to: u32) -> u32
+    requires from { from < TURN }
+    requires to { to < TURN }
+    ensures value { result ≡ span_between from to }
+    ensures range { IsFromOneTo TURN result }
+{
+    let span = (to + TURN - from) % TURN;
+    if span == 0 { TURN } else { span }
 }

@@ -1,6 +1,6 @@
 -- The lemmas of the crate.
-pub mod Blanks
 pub mod Drawn
+pub mod Few
 pub mod Kept
 pub mod Streams
 pub mod Taking

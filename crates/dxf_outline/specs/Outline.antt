@@ -1,10 +1,9 @@
 -- The outline of a DXF file: its section of entities, what each of them draws, and what is skipped.
 use Rattle.std.specs.Prelude.{ℕ, Bool, false, if◌then◌else◌, List, [], bytes_eq, codes, Result, Ok, Err}
 use Rattle.grid_num.specs.Judging.{and_then}
-use Rattle.plane_exact.specs.declared.point.Seg.{Seg}
 use Rattle.dxf_outline.specs.Pairs.{Stream, Over, Broken, Next, fields_of, has_code, is_pair, pairs_of}
 use Rattle.dxf_outline.specs.Polyline.{Trail, one_skipped, trail_drawn, trail_of, vertex_of, with_vertex}
-use Rattle.dxf_outline.specs.Shapes.{Drawn, and_segs, arc_segs, circle_segs, line_segs}
+use Rattle.dxf_outline.specs.Shapes.{Drawn, and_segs, shape_segs}
 use Rattle.dxf_outline.specs.Values.{slots_of}
 use Rattle.dxf_outline.specs.declared.fault.DxfFault.{DxfFault}
 use Rattle.dxf_outline.specs.declared.fault.DxfKind.TheVariants.{Unended}
@@ -52,9 +51,9 @@ begins_entities (Next pair rest) = is_pair 2 (codes "ENTITIES") pair
 abbrev pub inside : Result Drawn DxfFault → Result State DxfFault
 inside drawn = and_then drawn (λ drawn. Ok (record { place = Inside; drawn = drawn }))
 
--- an entity drawn by the segments that its pairs give
-abbrev pub drawn_by : (at : ℕ) → Drawn → (Slots → Result (List Seg) DxfFault) → Result Slots DxfFault → Result State DxfFault
-drawn_by at drawn segs slots = inside (and_then (and_then slots segs) (and_segs at drawn))
+-- an entity of this kind drawn by the segments that its pairs give
+unfoldable pub drawn_as : Shape → (per_unit chord : ℕ) → Drawn → (at : ℕ) → Stream → Result State DxfFault
+drawn_as shape per_unit chord drawn at rest = inside (and_then (and_then (slots_in shape per_unit rest) (shape_segs shape chord at)) (and_segs at drawn))
 
 -- the section of entities begins with the pairs 0 SECTION, 2 ENTITIES
 abbrev pub left_outside : Name → Stream → Place
@@ -65,9 +64,9 @@ left_outside _ rest = Outside
 unfoldable pub entered : (per_unit chord : ℕ) → Drawn → (at : ℕ) → Name → Stream → Result State DxfFault
 entered per_unit chord drawn at Section rest = Ok (record { place = Inside; drawn = drawn })
 entered per_unit chord drawn at Endsec rest = Ok (record { place = Outside; drawn = drawn })
-entered per_unit chord drawn at Line rest = drawn_by at drawn (line_segs at) (slots_in shape.Line per_unit rest)
-entered per_unit chord drawn at Circle rest = drawn_by at drawn (circle_segs chord at) (slots_in shape.Circle per_unit rest)
-entered per_unit chord drawn at Arc rest = drawn_by at drawn (arc_segs chord at) (slots_in shape.Arc per_unit rest)
+entered per_unit chord drawn at Line rest = drawn_as shape.Line per_unit chord drawn at rest
+entered per_unit chord drawn at Circle rest = drawn_as shape.Circle per_unit chord drawn at rest
+entered per_unit chord drawn at Arc rest = drawn_as shape.Arc per_unit chord drawn at rest
 entered per_unit chord drawn at Polyline rest =
     and_then (slots_in shape.Polyline per_unit rest) (λ slots. Ok (record { place = Along (trail_of at slots); drawn = drawn }))
 entered per_unit chord drawn at _ rest = Ok (record { place = Inside; drawn = one_skipped drawn })

@@ -5,9 +5,10 @@ use Rattle.grid_num.specs.Whole.{both}
 use Rattle.plane_exact.specs.declared.point.Seg.{Seg}
 use Rattle.arc_flatten.specs.Bulges.{bulge_points}
 use Rattle.arc_flatten.specs.Points.{FinePoint}
+use Rattle.arc_flatten.specs.Segments.{segments_of}
 use Rattle.arc_flatten.specs.declared.halving.TheConstants.{MOST_BULGE, MOST_END}
 use Rattle.dxf_outline.specs.Corners.{CornerPoint}
-use Rattle.dxf_outline.specs.Shapes.{Drawn, and_segs, in_range, point_up_to, segs_of, unless}
+use Rattle.dxf_outline.specs.Shapes.{Drawn, and_segs, in_range, point_up_to, unless}
 use Rattle.dxf_outline.specs.Values.{flags_of, has_flag, least_missing, number_up_to}
 use Rattle.dxf_outline.specs.declared.fault.DxfFault.{DxfFault}
 use Rattle.dxf_outline.specs.declared.fault.DxfKind.TheVariants.{Missing, Number, OutOfRange}
@@ -90,7 +91,7 @@ closed_round _ corners = corners
 
 -- the segments from one corner to the next, by the bulge of the first
 abbrev pub span_segs : (chord : ℕ) → CornerPoint → CornerPoint → Option (List Seg)
-span_segs chord c d = segs_of (bulge_points c.place d.place c.bulge chord)
+span_segs chord c d = segments_of (bulge_points c.place d.place c.bulge chord)
 
 -- the segments along the corners, where no point leaves the grid
 unfoldable pub segs_through : (chord : ℕ) → List CornerPoint → Option (List Seg)

@@ -1,7 +1,7 @@
 // Entities in the section of entities: what is drawn, what begins, and what is skipped.
 ghost use Rattle.std.specs.Prelude.{◌≡◌, ◌≢◌, ◌≤◌, IfErr, IfOk, OnOk, Ok, Err};
 ghost use Rattle.grid_num.specs.Units.{per_unit_of};
-ghost use Rattle.dxf_outline.specs.Outline.{entered};
+ghost use Rattle.dxf_outline.specs.Outline.{drawn_as, entered};
 ghost use Rattle.dxf_outline.specs.Pairs.{count_of};
 ghost use Rattle.dxf_outline.specs.State.{LeadsOn, drawn_of, pairs_left, state_of};
 
@@ -12,7 +12,7 @@ use crate::names::Name;
 use crate::outline::Outline;
 use crate::place::Place;
 use crate::resolution::Resolution;
-use crate::shapes::{judge_arc, judge_circle, judge_line};
+use crate::shapes::judge;
 use crate::slots::Shape;
 use std::alloc::Global;
 
@@ -36,9 +36,9 @@ pub(crate) fn enter(
     match name {
         Name::Section => Ok(Place::Inside),
         Name::Endsec => Ok(Place::Outside),
-        Name::Line => draw_line(alloc, resolution, at, pairs, outline),
-        Name::Circle => draw_circle(alloc, resolution, at, pairs, outline),
-        Name::Arc => draw_arc(alloc, resolution, at, pairs, outline),
+        Name::Line => draw(alloc, resolution, at, Shape::Line, pairs, outline),
+        Name::Circle => draw(alloc, resolution, at, Shape::Circle, pairs, outline),
+        Name::Arc => draw(alloc, resolution, at, Shape::Arc, pairs, outline),
         Name::Polyline => begin_polyline(alloc, resolution, at, pairs, outline),
         Name::Vertex | Name::Seqend | Name::Other => {
             outline.skip()?;
@@ -47,57 +47,23 @@ pub(crate) fn enter(
     }
 }
 
-fn draw_line(
+// Draws an entity of this kind.
+fn draw(
     alloc: Global,
     resolution: Resolution,
     at: u32,
+    shape: Shape,
     pairs: &mut Pairs<'_>,
     outline: &mut Outline,
 ) -> Result<Place, DxfFault>
-    ensures goes { IfOk result (λ next. entered (per_unit_of resolution.units) resolution.chord (drawn_of outline.old) at Name.Line (pairs_left pairs.old) ≡ Ok (state_of next outline.new)) }
-    ensures fault { IfErr result (λ f. f.kind ≢ DxfKind.Memory → entered (per_unit_of resolution.units) resolution.chord (drawn_of outline.old) at Name.Line (pairs_left pairs.old) ≡ Err f) }
+    ensures goes { IfOk result (λ next. drawn_as shape (per_unit_of resolution.units) resolution.chord (drawn_of outline.old) at (pairs_left pairs.old) ≡ Ok (state_of next outline.new)) }
+    ensures fault { IfErr result (λ f. f.kind ≢ DxfKind.Memory → drawn_as shape (per_unit_of resolution.units) resolution.chord (drawn_of outline.old) at (pairs_left pairs.old) ≡ Err f) }
     ensures memory { IfErr result (λ f. f.kind ≡ DxfKind.Memory → f.pair ≡ 0) }
     ensures fewer { count_of (pairs_left pairs.new) ≤ count_of (pairs_left pairs.old) }
     ensures leads_on { OnOk result (LeadsOn (pairs_left pairs.old) (pairs_left pairs.new)) }
 {
-    let slots = pairs.take_slots(Shape::Line, resolution.units)?;
-    judge_line(alloc, at, &slots, outline)?;
-    Ok(Place::Inside)
-}
-
-fn draw_circle(
-    alloc: Global,
-    resolution: Resolution,
-    at: u32,
-    pairs: &mut Pairs<'_>,
-    outline: &mut Outline,
-) -> Result<Place, DxfFault>
-    ensures goes { IfOk result (λ next. entered (per_unit_of resolution.units) resolution.chord (drawn_of outline.old) at Name.Circle (pairs_left pairs.old) ≡ Ok (state_of next outline.new)) }
-    ensures fault { IfErr result (λ f. f.kind ≢ DxfKind.Memory → entered (per_unit_of resolution.units) resolution.chord (drawn_of outline.old) at Name.Circle (pairs_left pairs.old) ≡ Err f) }
-    ensures memory { IfErr result (λ f. f.kind ≡ DxfKind.Memory → f.pair ≡ 0) }
-    ensures fewer { count_of (pairs_left pairs.new) ≤ count_of (pairs_left pairs.old) }
-    ensures leads_on { OnOk result (LeadsOn (pairs_left pairs.old) (pairs_left pairs.new)) }
-{
-    let slots = pairs.take_slots(Shape::Circle, resolution.units)?;
-    judge_circle(alloc, resolution.chord, at, &slots, outline)?;
-    Ok(Place::Inside)
-}
-
-fn draw_arc(
-    alloc: Global,
-    resolution: Resolution,
-    at: u32,
-    pairs: &mut Pairs<'_>,
-    outline: &mut Outline,
-) -> Result<Place, DxfFault>
-    ensures goes { IfOk result (λ next. entered (per_unit_of resolution.units) resolution.chord (drawn_of outline.old) at Name.Arc (pairs_left pairs.old) ≡ Ok (state_of next outline.new)) }
-    ensures fault { IfErr result (λ f. f.kind ≢ DxfKind.Memory → entered (per_unit_of resolution.units) resolution.chord (drawn_of outline.old) at Name.Arc (pairs_left pairs.old) ≡ Err f) }
-    ensures memory { IfErr result (λ f. f.kind ≡ DxfKind.Memory → f.pair ≡ 0) }
-    ensures fewer { count_of (pairs_left pairs.new) ≤ count_of (pairs_left pairs.old) }
-    ensures leads_on { OnOk result (LeadsOn (pairs_left pairs.old) (pairs_left pairs.new)) }
-{
-    let slots = pairs.take_slots(Shape::Arc, resolution.units)?;
-    judge_arc(alloc, resolution.chord, at, &slots, outline)?;
+    let slots = pairs.take_slots(shape, resolution.units)?;
+    judge(alloc, resolution.chord, at, shape, &slots, outline)?;
     Ok(Place::Inside)
 }
 

@@ -51,64 +51,11 @@ pub struct DxfFault {
 impl DxfFault {
     ghost use Rattle.std.specs.Prelude.{◌≡◌};
 
-    /// The code of the pair with this number is none.
-    pub(crate) fn bad_code(pair: u32) -> DxfFault
-        ensures { result ≡ record { pair = pair; kind = DxfKind.BadCode } }
+    /// The fault of this kind at the pair with this number.
+    pub(crate) fn at(pair: u32, kind: DxfKind) -> DxfFault
+        ensures { result ≡ record { pair = pair; kind = kind } }
     {
-        DxfFault {
-            pair,
-            kind: DxfKind::BadCode,
-        }
-    }
-
-    /// What begins at the pair with this number doesn't end.
-    pub(crate) fn unended(pair: u32) -> DxfFault
-        ensures { result ≡ record { pair = pair; kind = DxfKind.Unended } }
-    {
-        DxfFault {
-            pair,
-            kind: DxfKind::Unended,
-        }
-    }
-
-    /// The value of the pair with this number can't be read.
-    pub(crate) fn number(pair: u32) -> DxfFault
-        ensures { result ≡ record { pair = pair; kind = DxfKind.Number } }
-    {
-        DxfFault {
-            pair,
-            kind: DxfKind::Number,
-        }
-    }
-
-    /// The entity that begins at this pair lacks the code.
-    pub(crate) fn missing(pair: u32, code: u32) -> DxfFault
-        ensures { result ≡ record { pair = pair; kind = DxfKind.Missing code } }
-    {
-        DxfFault {
-            pair,
-            kind: DxfKind::Missing(code),
-        }
-    }
-
-    /// A number or a point of the entity that begins at this pair is out of range.
-    pub(crate) fn out_of_range(pair: u32) -> DxfFault
-        ensures { result ≡ record { pair = pair; kind = DxfKind.OutOfRange } }
-    {
-        DxfFault {
-            pair,
-            kind: DxfKind::OutOfRange,
-        }
-    }
-
-    /// The segments of the entity that begins at this pair are too many.
-    pub(crate) fn too_many(pair: u32) -> DxfFault
-        ensures { result ≡ record { pair = pair; kind = DxfKind.TooMany } }
-    {
-        DxfFault {
-            pair,
-            kind: DxfKind::TooMany,
-        }
+        DxfFault { pair, kind }
     }
 }
 

@@ -61,8 +61,8 @@ impl<'a> Pairs<'a> {
         'fields: loop {
             match self.head {
                 Head::Over => return Ok(slots),
-                Head::BadCode(pair) => return Err(DxfFault::bad_code(pair)),
-                Head::Unended(pair) => return Err(DxfFault::unended(pair)),
+                Head::BadCode(pair) => return Err(DxfFault::at(pair, DxfKind::BadCode)),
+                Head::Unended(pair) => return Err(DxfFault::at(pair, DxfKind::Unended)),
                 Head::Next(entry) => {
                     if entry.has_code(0) {
                         return Ok(slots);

@@ -14,7 +14,6 @@ mod numbers;
 mod outline;
 mod pairs;
 mod place;
-mod points;
 mod polyline;
 mod reader;
 mod resolution;

@@ -10,9 +10,8 @@ ghost use Rattle.dxf_outline.specs.Values.{has_flag};
 use crate::corners::{Corner, Polyline, Vertex};
 use crate::fault::{DxfFault, DxfKind};
 use crate::outline::Outline;
-use crate::points::segs_of;
 use crate::shapes::{MOST_SEGMENTS, append};
-use arc_flatten::{MOST_CHORD, bulge};
+use arc_flatten::{MOST_CHORD, bulge, segments};
 use plane_exact::Seg;
 use std::alloc::{AllocError, Global};
 
@@ -30,7 +29,7 @@ pub(crate) fn judge_polyline(
     ensures memory { IfErr result (λ f. f.kind ≡ DxfKind.Memory → f.pair ≡ 0) }
 {
     if let Some(pair) = polyline.unreadable {
-        return Err(DxfFault::number(pair));
+        return Err(DxfFault::at(pair, DxfKind::Number));
     }
     if has_flag(16, polyline.flags) || has_flag(64, polyline.flags) {
         return outline.skip();
@@ -79,7 +78,7 @@ fn first_unreadable(vertices: &[Vertex]) -> Option<DxfFault>
     let mut rest = vertices;
     while let Some((vertex, others)) = rest.split_first() {
         if let Vertex::Unreadable(pair) = *vertex {
-            return Some(DxfFault::number(pair));
+            return Some(DxfFault::at(pair, DxfKind::Number));
         }
         rest = others;
     }
@@ -94,7 +93,7 @@ fn first_lacking(vertices: &[Vertex]) -> Option<DxfFault>
     let mut rest = vertices;
     while let Some((vertex, others)) = rest.split_first() {
         if let Vertex::Lacking(pair, code) = *vertex {
-            return Some(DxfFault::missing(pair, code));
+            return Some(DxfFault::at(pair, DxfKind::Missing(code)));
         }
         rest = others;
     }
@@ -109,7 +108,7 @@ fn first_too_large(at: u32, vertices: &[Vertex]) -> Option<DxfFault>
     let mut rest = vertices;
     while let Some((vertex, others)) = rest.split_first() {
         if let Vertex::TooLarge = *vertex {
-            return Some(DxfFault::out_of_range(at));
+            return Some(DxfFault::at(at, DxfKind::OutOfRange));
         }
         rest = others;
     }
@@ -181,14 +180,14 @@ fn draw_from(
     let mut rest = others;
     while let Some((corner, later)) = rest.split_first() {
         let Some(segs) = span_segs(alloc, chord, before, *corner)? else {
-            return Err(DxfFault::out_of_range(at));
+            return Err(DxfFault::at(at, DxfKind::OutOfRange));
         };
         is_full = take(&segs, is_full, outline)?;
         before = *corner;
         rest = later;
     }
     if is_over(is_full, outline) {
-        return Err(DxfFault::too_many(at));
+        return Err(DxfFault::at(at, DxfKind::TooMany));
     }
     Ok(())
 }
@@ -212,7 +211,7 @@ fn take(segs: &[Seg], is_full: bool, outline: &mut Outline) -> Result<bool, Allo
     Ok(false)
 }
 
-// The segments from one corner to the next.
+// The segments from one corner to the next. Most ways are straight, and want no arc.
 fn span_segs(
     alloc: Global,
     chord: u32,
@@ -222,7 +221,10 @@ fn span_segs(
     requires { IsFromOneTo MOST_CHORD chord }
     ensures { IfOk result (λ segs. option_map (λ segs. segs.items) segs ≡ span_segs chord from to) }
 {
-    segs_of(
+    if from.bulge == 0 {
+        return segments(alloc, &[from.place, to.place]);
+    }
+    segments(
         alloc,
         &bulge(alloc, from.place, to.place, from.bulge, chord)?,
     )

@@ -4,6 +4,7 @@ ghost use Rattle.grid_num.specs.Units.{per_unit_of};
 ghost use Rattle.plane_exact.specs.Cone.{IsFromOneTo};
 ghost use Rattle.dxf_outline.specs.Outline.{dxf_of};
 ghost use Rattle.dxf_outline.specs.State.{drawn_of};
+ghost use Rattle.dxf_outline.specs.declared.shapes.TheConstants.{MOST_SEGMENTS};
 
 use crate::ahead::Pairs;
 use crate::fault::{DxfFault, DxfKind};
@@ -24,6 +25,7 @@ pub fn read_dxf(alloc: Global, bytes: &[u8], units: Units, chord: u32) -> Result
     requires bytes { length bytes.now ≤ MOST_DXF_BYTES }
     requires chord { IsFromOneTo MOST_CHORD chord }
     ensures outline { IfOk result (λ outline. dxf_of (per_unit_of units) chord bytes.now ≡ Ok (drawn_of outline)) }
+    ensures few { IfOk result (λ outline. length outline.segs.items ≤ MOST_SEGMENTS) }
     ensures fault { IfErr result (λ f. f.kind ≢ DxfKind.Memory → dxf_of (per_unit_of units) chord bytes.now ≡ Err f) }
     ensures memory { IfErr result (λ f. f.kind ≡ DxfKind.Memory → f.pair ≡ 0) }
 {

@@ -7,7 +7,10 @@ use std::test::Fail;
 const CIRCLE: &str = "0 SECTION 2 ENTITIES 0 CIRCLE 8 0 10 0.0 20 0.0 40 1.0 0 ENDSEC 0 EOF";
 
 const SQUARE: &str =
-    "0 LINE 10 0 20 0 11 1 21 0 0 LINE 10 1 20 0 11 1 21 1 0 LINE 10 1 20 1 11 0 21 1";
+    "0 LINE 10 0 20 0 11 1 21 0 0 LINE 10 1 20 0 11 1 21 1 0 LINE 10 1 20 1 11 0 21 1 0 LINE 10 0 20 1 11 0 21 0";
+
+const SQUARE_AND_TEXT: &str =
+    "0 LINE 10 0 20 0 11 1 21 0 0 LINE 10 1 20 0 11 1 21 1 0 LINE 10 1 20 1 11 0 21 1 0 LINE 10 0 20 1 11 0 21 0 0 TEXT 10 0 20 0 40 2.5 1 HELLO";
 
 const BEGIN: &str = "0 SECTION 2 ENTITIES ";
 
@@ -15,8 +18,14 @@ const END: &str = " 0 ENDSEC 0 EOF";
 
 // What stands between the begin and the end of the section, with the outline of pieces no wider than 90 degrees, or its fault.
 const ENTITIES: [(&str, &str); 41] = [
-    (SQUARE, "0: 0,0 100,0; 100,0 100,100; 100,100 0,100;"),
-    ("0 TEXT 10 0 20 0 40 2.5 1 HELLO", "1:"),
+    (
+        SQUARE,
+        "0: 0,0 100,0; 100,0 100,100; 100,100 0,100; 0,100 0,0;",
+    ),
+    (
+        SQUARE_AND_TEXT,
+        "1: 0,0 100,0; 100,0 100,100; 100,100 0,100; 0,100 0,0;",
+    ),
     (
         "0 TEXT 1 A 0 LINE 10 0 20 0 11 1 21 0 0 TEXT 1 B",
         "2: 0,0 100,0;",
@@ -183,6 +192,29 @@ fn takes_131072_segments(rt: HostRuntime) -> Result<(), Fail> {
         read_dxf(rt.alloc(), &words, Units::Mm10, 1).err(),
         Some(fault)
     );
+    Ok(())
+}
+
+// 300 nearly whole circles have more segments than are taken; but a point that leaves the grid is the fault, also behind them.
+#[test]
+fn a_later_point_off_the_grid_comes_first(rt: HostRuntime) -> Result<(), Fail> {
+    for (last, kind) in [
+        (&b"1"[..], DxfKind::TooMany),
+        (&b"400"[..], DxfKind::OutOfRange),
+    ] {
+        let mut words = Vec::new(rt.alloc());
+        words.extend_from_slice(b"0\nSECTION\n2\nENTITIES\n0\nPOLYLINE\n")?;
+        for _ in 0..150 {
+            words.extend_from_slice(b"0\nVERTEX\n10\n0\n20\n0\n42\n10\n")?;
+            words.extend_from_slice(b"0\nVERTEX\n10\n1\n20\n0\n42\n10\n")?;
+        }
+        words.extend_from_slice(b"0\nVERTEX\n20\n0\n10\n")?;
+        words.extend_from_slice(last)?;
+        words.extend_from_slice(b"\n0\nSEQEND\n0\nENDSEC\n0\nEOF\n")?;
+        assert!(rt; words.len() < 100_000);
+        let answer = read_dxf(rt.alloc(), &words, Units::Mm100, 1);
+        assert_eq!(rt; answer.err(), Some(DxfFault { pair: 3, kind }));
+    }
     Ok(())
 }
 

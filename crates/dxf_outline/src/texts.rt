@@ -1,9 +1,9 @@
 // The lines of a file without the blanks at their ends.
-ghost use Rattle.std.specs.Prelude.{◌≡◌, ◌<◌, ◌≤◌, ◌^◌, ◌∷◌, [], MatchOption, length};
-ghost use Rattle.dxf_outline.specs.Texts.{texts_of, unpadded, without_back, without_front};
+ghost use Rattle.std.specs.Prelude.{◌≡◌, ◌<◌, ◌^◌, ◌∷◌, [], MatchOption, length};
+ghost use Rattle.dxf_outline.specs.Texts.{texts_of};
 
 use std::marker::Model;
-use text_lines::{Lines, Separator};
+use text_lines::{Lines, without_blanks};
 
 /// Gives the lines of a file in order, without the blanks at their ends. What stands behind the last line feed is a line only where
 /// it has a byte.
@@ -45,33 +45,4 @@ impl<'a> Texts<'a> {
         }
         None
     }
-}
-
-fn without_blanks(line: &[u8]) -> &[u8]
-    ensures { result.now ≡ unpadded line.now }
-{
-    without_blanks_behind(without_blanks_before(line))
-}
-
-fn without_blanks_before(line: &[u8]) -> &[u8]
-    ensures { result.now ≡ without_front line.now }
-{
-    let mut text = line;
-    while let [b' ' | b'\t', rest @ ..] = text {
-        text = rest;
-    }
-    text
-}
-
-fn without_blanks_behind(line: &[u8]) -> &[u8]
-    ensures { result.now ≡ without_back line.now }
-{
-    let mut text = line;
-    while let Some((last, before)) = text.split_last() {
-        if !Separator::Blank.separates(*last) {
-            return text;
-        }
-        text = before;
-    }
-    text
 }

@@ -36,8 +36,8 @@ pub(crate) fn walk(
     'pairs: loop {
         match pairs.next() {
             Head::Over => return finish(place, outline),
-            Head::BadCode(pair) => return Err(DxfFault::bad_code(pair)),
-            Head::Unended(pair) => return Err(DxfFault::unended(pair)),
+            Head::BadCode(pair) => return Err(DxfFault::at(pair, DxfKind::BadCode)),
+            Head::Unended(pair) => return Err(DxfFault::at(pair, DxfKind::Unended)),
             Head::Next(entry) => {
                 if entry.has_code(0) {
                     let name = name_of(entry.value);
@@ -65,7 +65,7 @@ fn finish(place: Place, outline: Outline) -> Result<Outline, DxfFault>
 {
     match place {
         Place::Outside | Place::Inside => Ok(outline),
-        Place::Along(polyline) => Err(DxfFault::unended(polyline.at)),
+        Place::Along(polyline) => Err(DxfFault::at(polyline.at, DxfKind::Unended)),
     }
 }
 
@@ -126,7 +126,7 @@ fn follow(
             judge_polyline(alloc, resolution.chord, &polyline, outline)?;
             Ok(Place::Inside)
         }
-        _ => Err(DxfFault::unended(polyline.at)),
+        _ => Err(DxfFault::at(polyline.at, DxfKind::Unended)),
     }
 }
 

@@ -7,7 +7,7 @@ use Rattle.dxf_outline.proofs.polyline.draw_from.Goals as goal
 pub returns-in_default-2-clause-fault : goal.returns-in_default-2-clause-fault
 returns-in_default-2-clause-fault c kind =
     let off = rw c.in_default-2.is at c.in_ok-segs.ensures in
-    rw c.out_of_range.ensures (through_off c.loop-corner.invariant c.args.at c.in-Some.corner.now c.in-Some.later.now c.in-Some.ensures.cases.0 off)
+    rw c.at.ensures (through_off c.loop-corner.invariant c.args.at c.in-Some.corner.now c.in-Some.later.now c.in-Some.ensures.cases.0 off)
 
 pub loop-corner-preserved : goal.loop-corner-preserved
 loop-corner-preserved c =
@@ -18,7 +18,7 @@ loop-corner-preserved c =
 
 pub returns-then-is_over-clause-fault : goal.returns-then-is_over-clause-fault
 returns-then-is_over-clause-fault c kind =
-    rw c.too_many.ensures (through_Err c.loop-corner.invariant c.args.at (nil_from_length c.loop-corner.rest.now c.in_default.ensures.cases) (sym c.is_over.ensures ∙ c.if-is_over.true))
+    rw c.at-then-is_over.ensures (through_Err c.loop-corner.invariant c.args.at (nil_from_length c.loop-corner.rest.now c.in_default.ensures.cases) (sym c.is_over.ensures ∙ c.if-is_over.true))
 
 pub returns-clause-drawn : goal.returns-clause-drawn
 returns-clause-drawn c = through_Ok c.loop-corner.invariant c.args.at (nil_from_length c.loop-corner.rest.now c.in_default.ensures.cases) (sym c.is_over.ensures ∙ c.if-is_over.false)

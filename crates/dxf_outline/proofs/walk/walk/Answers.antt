@@ -28,14 +28,14 @@ returns-in-BadCode-clause-fault c kind =
     let per_unit = per_unit_of c.args.resolution.units in
     let chord = c.args.resolution.chord in
     let state = state_of c.pairs.place c.pairs.outline in
-    c.pairs.invariant ∙ ap (drawn_from per_unit chord state) c.in-BadCode.ensures.pairs ∙ rw c.bad_code.ensures (drawn_from-Broken per_unit chord state _)
+    c.pairs.invariant ∙ ap (drawn_from per_unit chord state) c.in-BadCode.ensures.pairs ∙ rw c.at.ensures (drawn_from-Broken per_unit chord state _)
 
 pub returns-in-Unended-clause-fault : goal.returns-in-Unended-clause-fault
 returns-in-Unended-clause-fault c kind =
     let per_unit = per_unit_of c.args.resolution.units in
     let chord = c.args.resolution.chord in
     let state = state_of c.pairs.place c.pairs.outline in
-    c.pairs.invariant ∙ ap (drawn_from per_unit chord state) c.in-Unended.ensures.pairs ∙ rw c.unended.ensures (drawn_from-Broken per_unit chord state _)
+    c.pairs.invariant ∙ ap (drawn_from per_unit chord state) c.in-Unended.ensures.pairs ∙ rw c.at-in-Unended.ensures (drawn_from-Broken per_unit chord state _)
 
 pub returns-in_err-place-in-Next-clause-fault : goal.returns-in_err-place-in-Next-clause-fault
 returns-in_err-place-in-Next-clause-fault c =

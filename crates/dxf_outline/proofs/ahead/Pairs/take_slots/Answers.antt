@@ -20,11 +20,11 @@ returns-in-Over-clause-slots c = taking_all c.fields.invariant (ap fields_of (le
 
 pub returns-in-BadCode-clause-fault : goal.returns-in-BadCode-clause-fault
 returns-in-BadCode-clause-fault c =
-    taking_broken c.fields.invariant c.bad_code.result (ap fields_of (left_is c.fields.self _ c.in-BadCode.is) ∙ rw c.bad_code.ensures (fields_of-Broken _))
+    taking_broken c.fields.invariant c.at.result (ap fields_of (left_is c.fields.self _ c.in-BadCode.is) ∙ rw c.at.ensures (fields_of-Broken _))
 
 pub returns-in-Unended-clause-fault : goal.returns-in-Unended-clause-fault
 returns-in-Unended-clause-fault c =
-    taking_broken c.fields.invariant c.unended.result (ap fields_of (left_is c.fields.self _ c.in-Unended.is) ∙ rw c.unended.ensures (fields_of-Broken _))
+    taking_broken c.fields.invariant c.at-in-Unended.result (ap fields_of (left_is c.fields.self _ c.in-Unended.is) ∙ rw c.at-in-Unended.ensures (fields_of-Broken _))
 
 pub returns-then-has_code-clause-slots : goal.returns-then-has_code-clause-slots
 returns-then-has_code-clause-slots c =
