@@ -1,0 +1,7 @@
+-- Answers the goals of `characters`.
+use Rattle.std.proofs.Common.{rules}
+use Rattle.std.proofs.lemmas.Str.{chars_from_encodes}
+use Rattle.cxf_font.proofs.laying.characters.Goals as goal
+
+pub returns : goal.returns
+returns c = search (rules, chars_from_encodes)
