@@ -7,7 +7,9 @@ mod check;
 mod contacts;
 mod cover;
 mod devices;
+mod flatten;
 mod large;
+mod lettering;
 mod listing;
 mod moves;
 mod probe;
@@ -54,7 +56,18 @@ fn run(
 ) -> Result<(u8, String), Fail>
     requires { 1 ≤ per_call }
 {
-    let words = listed(alloc, words)?;
+    run_words(alloc, &listed(alloc, words)?, files, per_call, failing)
+}
+
+fn run_words(
+    alloc: Global,
+    words: &[String],
+    files: (&str, &str),
+    per_call: usize,
+    failing: (u64, u64),
+) -> Result<(u8, String), Fail>
+    requires { 1 ≤ per_call }
+{
     let (reads, writes) = failing;
     let mut depot = MemDepot::new(
         shelf(alloc, files.0, files.1)?,
@@ -62,7 +75,7 @@ fn run(
         [reads].to_vec(alloc)?,
     );
     let mut out = MemSink::new(alloc, per_call, [writes].to_vec(alloc)?);
-    let outcome = engrave(alloc, &words, &mut depot, &mut out);
+    let outcome = engrave(alloc, words, &mut depot, &mut out);
     let text = String::from_utf8(out.bytes().to_vec(alloc)?)
         .ok()
         .ok_or("text")?;

@@ -15,57 +15,56 @@ use Rattle.plane_exact.specs.Plane.{GridPoint}
 use Rattle.plane_exact.specs.Uncut.{UncutPoints}
 use Rattle.plane_exact.specs.declared.moves.LineMove.{LineMove}
 use Rattle.engrave_core.specs.Commands.Carve.{IsCarvedOrRefused, IsDueOfCarve, StoresWellCarved}
+use Rattle.engrave_core.specs.Drawing.{IsDrawingOf, ReadDrawing}
 use Rattle.engrave_core.specs.Line.{line_of}
 use Rattle.engrave_core.specs.Outcome.{IfAnswered, outcome_of}
 use Rattle.engrave_core.specs.Refusals.{cover_refusal, plan_refusal}
-use Rattle.engrave_core.specs.Stored.{Files, stored_drawing}
+use Rattle.engrave_core.specs.Stored.{Files}
 use Rattle.engrave_core.specs.declared.outcome.Outcome.TheVariants.{Done}
-use Rattle.engrave_core.proofs.Done.{found, refusal_is_not_done}
+use Rattle.engrave_core.proofs.Done.{found_drawing, refusal_is_not_done}
 
 -- a fault of the report is answered by its refusal, where there is a plan
-pub unreported : (job : Job) (pitch : ℕ) (loops seen : List (List GridPoint)) (plan : List (List GridNode)) (fault : CoverFault) → seen ≡ loops
-    → IsPlan seen job.bit job.limit job.step plan → IsCoverFault seen pitch fault
+pub unreported : (job : Job) (pitch : ℕ) (loops : List (List GridPoint)) (plan : List (List GridNode)) (fault : CoverFault)
+    → IsPlan loops job.bit job.limit job.step plan → IsCoverFault loops pitch fault
     → IfAnswered (outcome_of (cover_refusal fault)) (IsCarvedOrRefused job pitch loops (outcome_of (cover_refusal fault)) (line_of (outcome_of (cover_refusal fault))))
-unreported job pitch loops seen plan TooManyPoints same is many =
+unreported job pitch loops plan TooManyPoints is many =
     inr (inr (record {
       plan = plan;
-      is = subst (λ l. IsPlan l job.bit job.limit job.step plan) same is;
-      many = subst (λ l. IsCoverFault l pitch TooManyPoints) same many;
+      is = is;
+      many = many;
       refuses = record { refused = refl; line = refl };
     }))
-unreported job pitch loops seen plan Memory same is many = tt
+unreported job pitch loops plan Memory is many = tt
 
-carved_of : (files : Files) (shape : DrawingWords) (job : Job) (pitch : ℕ) (text : List ℕ) (loops : List (List GridPoint)) → stored_drawing files shape.drawing ≡ Ok loops
-    → IsCarvedOrRefused job pitch loops Done text → StoresWellCarved files shape job pitch text
-carved_of files shape job pitch text loops is (inl carved) = record { loops = loops; drawing_is = is; good = carved.good }
-carved_of files shape job pitch text loops is (inr (inl refused)) = absurd (refusal_is_not_done (plan_refusal refused.fault) refused.refuses.refused)
-carved_of files shape job pitch text loops is (inr (inr refused)) = absurd (refusal_is_not_done (cover_refusal TooManyPoints) refused.refuses.refused)
+carved_of : (files : Files) (shape : DrawingWords) (job : Job) (pitch : ℕ) (text : List ℕ) (drawing : ReadDrawing) → IsDrawingOf files shape (Ok drawing)
+    → IsCarvedOrRefused job pitch drawing.loops Done text → StoresWellCarved files shape job pitch text
+carved_of files shape job pitch text drawing is (inl carved) = record { drawing = drawing; is = is; good = carved.good }
+carved_of files shape job pitch text drawing is (inr (inl refused)) = absurd (refusal_is_not_done (plan_refusal refused.fault) refused.refuses.refused)
+carved_of files shape job pitch text drawing is (inr (inr refused)) = absurd (refusal_is_not_done (cover_refusal TooManyPoints) refused.refuses.refused)
 
 -- what is due with Done is a good program
 pub carved_is_good : (files : Files) (shape : DrawingWords) (job : Job) (pitch : ℕ) (text : List ℕ) → IsDueOfCarve files shape job pitch Done text → StoresWellCarved files shape job pitch text
 carved_is_good files shape job pitch text due =
-    let drawing = found _ (stored_drawing files shape.drawing) text due in
-    carved_of files shape job pitch text drawing.value drawing.is drawing.gives
+    let read = found_drawing _ files shape text due in
+    carved_of files shape job pitch text read.drawing read.is read.gives
 
 -- a plan, seen as chains, is within the limits of a path
-pub plan_is_within : (job : Job) (seen : List (List GridPoint)) (plan given : List (List GridNode)) → given ≡ plan
-    → IsPlan seen job.bit job.limit job.step plan → AreWithinLimits given
-plan_is_within job seen plan given given_is is = subst AreWithinLimits (sym given_is) (plan_within seen job.bit job.limit job.step plan is)
+pub plan_is_within : (job : Job) (loops : List (List GridPoint)) (plan given : List (List GridNode)) → given ≡ plan
+    → IsPlan loops job.bit job.limit job.step plan → AreWithinLimits given
+plan_is_within job loops plan given given_is is = subst AreWithinLimits (sym given_is) (plan_within loops job.bit job.limit job.step plan is)
 
 -- the program of a plan, with the report on its moves, is what is due, and a good one
-pub carved : (job : Job) (pitch : ℕ) (loops seen : List (List GridPoint)) (plan given : List (List GridNode)) (moves : List LineMove) (uncut : UncutPoints) (text : List ℕ)
-    → 1 ≤ job.bit.sn → seen ≡ loops → given ≡ plan → IsPlan seen job.bit job.limit job.step plan → moves ≡ chain_moves job plan
-    → IsReportOn seen job.bit moves pitch uncut → text ≡ program_text job given uncut → (AreWithinLimits given → IsReadBack job given uncut)
+pub carved : (job : Job) (pitch : ℕ) (loops : List (List GridPoint)) (plan given : List (List GridNode)) (moves : List LineMove) (uncut : UncutPoints) (text : List ℕ)
+    → 1 ≤ job.bit.sn → given ≡ plan → IsPlan loops job.bit job.limit job.step plan → moves ≡ chain_moves job plan
+    → IsReportOn loops job.bit moves pitch uncut → text ≡ program_text job given uncut → (AreWithinLimits given → IsReadBack job given uncut)
     → IsCarvedOrRefused job pitch loops Done text
-carved job pitch loops seen plan given moves uncut text some seen_is given_is is moves_are report text_is read =
-    let planned = subst (λ l. IsPlan l job.bit job.limit job.step plan) seen_is is in
+carved job pitch loops plan given moves uncut text some given_is is moves_are report text_is read =
     let program : text ≡ program_text job plan uncut = text_is ∙ ap (λ chains. program_text job chains uncut) given_is in
-    let on_plan = subst (λ l. IsReportOn l job.bit (chain_moves job plan) pitch uncut) seen_is
-    (subst (λ m. IsReportOn seen job.bit m pitch uncut) moves_are report) in
-    let within = plan_is_within job seen plan given given_is is in
+    let on_plan = subst (λ m. IsReportOn loops job.bit m pitch uncut) moves_are report in
+    let within = plan_is_within job loops plan given given_is is in
     inl (record {
       plan = plan;
-      is = planned;
+      is = is;
       uncut = uncut;
       report = on_plan;
       done = refl;
@@ -73,7 +72,7 @@ carved job pitch loops seen plan given moves uncut text some seen_is given_is is
       good = record {
         moves = chain_moves job plan;
         read = ap (moves_of job.units) program ∙ subst (λ chains. IsReadBack job chains uncut) given_is (read within);
-        carves = plan_carves loops job.bit job.limit job.step job plan some planned;
+        carves = plan_carves loops job.bit job.limit job.step job plan some is;
         uncut = uncut;
         report = on_plan;
         printed = record { front = path_text job plan; is = program };

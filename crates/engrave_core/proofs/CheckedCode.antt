@@ -8,11 +8,11 @@ use Rattle.gouge_checker.specs.declared.verdict.Verdict.TheVariants.{Clear, TooD
 use Rattle.job_words.specs.declared.request.DrawingWords.{DrawingWords}
 use Rattle.plane_exact.specs.Cone.{Cone}
 use Rattle.engrave_core.specs.Commands.Check.{IsDueOfCheck, IsReportOf, IsTrueOfCheck, StoresFitCode, StoresSafeCode, StoresUnfitCode}
-use Rattle.engrave_core.specs.Stored.{Files, stored_code, stored_drawing}
+use Rattle.engrave_core.specs.Stored.{Files, stored_code}
 use Rattle.engrave_core.specs.declared.outcome.Outcome.{Outcome}
 use Rattle.engrave_core.specs.declared.outcome.Outcome.TheVariants as outcome
 use Rattle.engrave_core.specs.declared.refusal.Refusal.TheVariants.{NotClear}
-use Rattle.engrave_core.proofs.Done.{code_gives_none, drawing_gives_none, found, found_for, refusal_is_not_done}
+use Rattle.engrave_core.proofs.Done.{code_gives_none, found, found_drawing, found_drawing_for, found_for, refusal_is_not_done}
 
 reported_clear : (count : ℕ) (verdict : Verdict) (text : List ℕ) → IsReportOf count verdict outcome.Done text → verdict ≡ Clear
 reported_clear count Clear text report = refl
@@ -34,13 +34,13 @@ reported_fault count (Outside line) reported text report = record { same = (let 
 checked_is_fit : (files : Files) (shape : DrawingWords) (code : List ℕ) (bit : Cone) (text : List ℕ)
     → IsDueOfCheck files shape code bit outcome.Done text → StoresFitCode files shape code bit
 checked_is_fit files shape code bit text given =
-    let loops = found _ (stored_drawing files shape.drawing) text given in
-    let moves = found _ (stored_code files shape.units code) text loops.gives in
+    let read = found_drawing _ files shape text given in
+    let moves = found _ (stored_code files shape.units code) text read.gives in
     let checked = moves.gives in
     record {
-      loops = loops.value;
+      drawing = read.drawing;
       moves = moves.value;
-      drawing_is = loops.is;
+      drawing_is = read.is;
       code_is = moves.is;
       so = checked.exact.0 (reported_clear (length moves.value) checked.verdict text checked.report);
     }
@@ -48,16 +48,16 @@ checked_is_fit files shape code bit text given =
 checked_is_unfit : (files : Files) (shape : DrawingWords) (code : List ℕ) (bit : Cone) (verdict : Verdict) (text : List ℕ)
     → IsDueOfCheck files shape code bit (outcome.NotClear verdict) text → StoresUnfitCode files shape code bit verdict
 checked_is_unfit files shape code bit verdict text given =
-    let loops = found_for _ (stored_drawing files shape.drawing) verdict text (drawing_gives_none files shape.drawing) given in
-    let moves = found_for _ (stored_code files shape.units code) verdict text (code_gives_none files shape.units code) loops.gives in
+    let read = found_drawing_for _ files shape verdict text given in
+    let moves = found_for _ (stored_code files shape.units code) verdict text (code_gives_none files shape.units code) read.gives in
     let checked = moves.gives in
     let reported = reported_fault (length moves.value) checked.verdict verdict text checked.report in
     record {
-      loops = loops.value;
+      drawing = read.drawing;
       moves = moves.value;
-      drawing_is = loops.is;
+      drawing_is = read.is;
       code_is = moves.is;
-      so = ((λ fit. reported.fault (checked.exact.1 fit)), subst (IsTrueNo (edges_of loops.value) bit moves.value) reported.same checked.harm);
+      so = ((λ fit. reported.fault (checked.exact.1 fit)), subst (IsTrueNo (edges_of read.drawing.loops) bit moves.value) reported.same checked.harm);
     }
 
 pub checked_is_true : (files : Files) (shape : DrawingWords) (code : List ℕ) (bit : Cone) (outcome : Outcome) (text : List ℕ)
@@ -75,4 +75,4 @@ pub checked_is_safe : (files : Files) (shape : DrawingWords) (code : List ℕ) (
     → IsDueOfCheck files shape code bit outcome.Done text → StoresSafeCode files shape code bit
 checked_is_safe files shape code bit text due =
     let fit = checked_is_fit files shape code bit text due in
-    record { loops = fit.loops; moves = fit.moves; drawing_is = fit.drawing_is; code_is = fit.code_is; so = fit.so.safe }
+    record { drawing = fit.drawing; moves = fit.moves; drawing_is = fit.drawing_is; code_is = fit.code_is; so = fit.so.safe }

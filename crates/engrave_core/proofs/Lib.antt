@@ -5,6 +5,7 @@ pub mod ContactLines
 pub mod CoveredCode
 pub mod Done
 pub mod JudgedCode
+pub mod Reported
 pub mod ReportedCheck
 pub mod Safety
 pub mod StreamedCode

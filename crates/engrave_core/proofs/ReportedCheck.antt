@@ -6,62 +6,50 @@ use Rattle.gouge_checker.specs.declared.verdict.Verdict.{Verdict}
 use Rattle.gouge_checker.proofs.Exact.{verdict_is_true}
 use Rattle.job_words.specs.declared.request.DrawingWords.{DrawingWords}
 use Rattle.plane_exact.specs.Cone.{Cone}
-use Rattle.plane_exact.specs.Plane.{GridPoint}
 use Rattle.engrave_core.specs.Commands.Check.{IsDueOfCheck, IsRefusalOfVerdict, IsReportOf}
+use Rattle.engrave_core.specs.Drawing.{IsDrawingOf, ReadDrawing}
 use Rattle.engrave_core.specs.Given.{IsReported}
 use Rattle.engrave_core.specs.Judging.{HasVerdict}
-use Rattle.engrave_core.specs.Line.{line_of}
-use Rattle.engrave_core.specs.Outcome.{IfAnswered, outcome_of}
-use Rattle.engrave_core.specs.Stored.{Files, IsCaused, stored_code, stored_drawing}
+use Rattle.engrave_core.specs.Outcome.{outcome_of}
+use Rattle.engrave_core.specs.Stored.{Files, IsCaused, stored_code}
 use Rattle.engrave_core.specs.declared.outcome.Outcome.{Outcome}
-use Rattle.engrave_core.specs.declared.outcome.Outcome.TheVariants as outcome
 use Rattle.engrave_core.specs.declared.refusal.Refusal.{Refusal}
 use Rattle.engrave_core.specs.declared.refusal.Refusal.TheVariants.{NotClear, Usage, Input, Absent, ReadFault, Memory}
-
-IfAnswered-weaker : {P Q : Type 0} (outcome : Outcome) → (P → Q) → IfAnswered outcome P → IfAnswered outcome Q
-IfAnswered-weaker outcome.Done weaker is = weaker is
-IfAnswered-weaker (outcome.NotClear verdict) weaker is = weaker is
-IfAnswered-weaker outcome.Usage weaker is = weaker is
-IfAnswered-weaker (outcome.Input fault) weaker is = weaker is
-IfAnswered-weaker (outcome.Absent which) weaker is = weaker is
-IfAnswered-weaker outcome.ReadFault weaker is = tt
-IfAnswered-weaker outcome.WriteFault weaker is = tt
-IfAnswered-weaker outcome.Memory weaker is = tt
-
-IsReported-weaker : {A : Type 0} {Due Other : Outcome → List ℕ → Type 0} (r : Result (Vec ℕ A) Refusal)
-    → ((outcome : Outcome) (text : List ℕ) → Due outcome text → Other outcome text) → IsReported Due r → IsReported Other r
-IsReported-weaker (Ok text) weaker is = weaker outcome.Done text.items is
-IsReported-weaker (Err refusal) weaker is = IfAnswered-weaker (outcome_of refusal) (weaker (outcome_of refusal) (line_of (outcome_of refusal))) is
+use Rattle.engrave_core.proofs.Reported.{IsReported-weaker}
 
 -- a report of the verdict on the stored moves is due
-due_of_verdict : (files : Files) (shape : DrawingWords) (code : List ℕ) (bit : Cone) (loops : List (List GridPoint)) (verdict : Verdict) (count : ℕ) (outcome : Outcome) (text : List ℕ)
-    → 1 ≤ bit.sn → stored_drawing files shape.drawing ≡ Ok loops → HasVerdict (edges_of loops) bit (stored_code files shape.units code) verdict count
+due_of_verdict : (files : Files) (shape : DrawingWords) (code : List ℕ) (bit : Cone) (drawing : ReadDrawing) (verdict : Verdict) (count : ℕ) (outcome : Outcome) (text : List ℕ)
+    → 1 ≤ bit.sn → IsDrawingOf files shape (Ok drawing) → HasVerdict (edges_of drawing.loops) bit (stored_code files shape.units code) verdict count
     → IsReportOf count verdict outcome text → IsDueOfCheck files shape code bit outcome text
-due_of_verdict files shape code bit loops verdict count outcome text some drawing_is has report =
-    let true_verdict = verdict_is_true loops bit has.moves verdict some has.judged.is in
-    rw (drawing_is, has.read)
-    (record {
-      verdict = verdict;
-      is = has.judged.is;
-      exact = true_verdict.exact;
-      harm = true_verdict.harm;
-      report = subst (λ n. IsReportOf n verdict outcome text) has.judged.counted report;
-    })
+due_of_verdict files shape code bit drawing verdict count outcome text some drawing_is has report =
+    let true_verdict = verdict_is_true drawing.loops bit has.moves verdict some has.judged.is in
+    record {
+      answer = Ok drawing;
+      is = drawing_is;
+      given =
+          rw (has.read)
+          (record {
+            verdict = verdict;
+            is = has.judged.is;
+            exact = true_verdict.exact;
+            harm = true_verdict.harm;
+            report = subst (λ n. IsReportOf n verdict outcome text) has.judged.counted report;
+          });
+    }
 
 -- whatever the depot holds: the drawing first, and then the program, where the files are still the same
-pub reported_check : {A : Type 0} (held now : Option Files) (shape : DrawingWords) (code drawing_name code_name : List ℕ) (bit : Cone) (drawing scene : List (List GridPoint))
-    (verdict : Verdict) (count : ℕ) (r : Result (Vec ℕ A) Refusal) → now ≡ held → drawing_name ≡ shape.drawing → code_name ≡ code → scene ≡ drawing → 1 ≤ bit.sn
-    → IfSome held (λ files. stored_drawing files drawing_name ≡ Ok drawing)
-    → IfSome now (λ files. HasVerdict (edges_of scene) bit (stored_code files shape.units code_name) verdict count)
+pub reported_check : {A : Type 0} (held now : Option Files) (shape : DrawingWords) (code code_name : List ℕ) (bit : Cone) (drawing : ReadDrawing)
+    (verdict : Verdict) (count : ℕ) (r : Result (Vec ℕ A) Refusal) → now ≡ held → code_name ≡ code → 1 ≤ bit.sn
+    → IfSome held (λ files. IsDrawingOf files shape (Ok drawing))
+    → IfSome now (λ files. HasVerdict (edges_of drawing.loops) bit (stored_code files shape.units code_name) verdict count)
     → IsReported (IsReportOf count verdict) r → IfSome held (λ files. IsReported (IsDueOfCheck files shape code bit) r)
-reported_check None now shape code drawing_name code_name bit drawing scene verdict count r same named coded drawn some there has report = tt
-reported_check (Some files) now shape code drawing_name code_name bit drawing scene verdict count r same named coded drawn some there has report =
-    let read : stored_drawing files shape.drawing ≡ Ok scene = ap (stored_drawing files) (sym named) ∙ there ∙ ap Ok (sym drawn) in
-    let judged : HasVerdict (edges_of scene) bit (stored_code files shape.units code_name) verdict count =
-    subst (λ o. IfSome o (λ fs. HasVerdict (edges_of scene) bit (stored_code fs shape.units code_name) verdict count)) same has in
+reported_check None now shape code code_name bit drawing verdict count r same coded some there has report = tt
+reported_check (Some files) now shape code code_name bit drawing verdict count r same coded some there has report =
+    let judged : HasVerdict (edges_of drawing.loops) bit (stored_code files shape.units code_name) verdict count =
+    subst (λ o. IfSome o (λ fs. HasVerdict (edges_of drawing.loops) bit (stored_code fs shape.units code_name) verdict count)) same has in
     IsReported-weaker r
-    (λ outcome text. due_of_verdict files shape code bit scene verdict count outcome text some read
-    (subst (λ name. HasVerdict (edges_of scene) bit (stored_code files shape.units name) verdict count) coded judged)) report
+    (λ outcome text. due_of_verdict files shape code bit drawing verdict count outcome text some there
+    (subst (λ name. HasVerdict (edges_of drawing.loops) bit (stored_code files shape.units name) verdict count) coded judged)) report
 
 -- no refusal by a verdict is a fault of a file
 pub uncaused : {A : Type 0} (r : Result A Refusal) (a b m n : ℕ) → IfErr r (λ refusal. IsRefusalOfVerdict (outcome_of refusal)) → IfErr r (λ refusal. IsCaused a b m n (outcome_of refusal))

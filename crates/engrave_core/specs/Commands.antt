@@ -6,6 +6,7 @@ use Rattle.engrave_core.specs.Commands.Carve.{IsDueOfCarve, IsRefusalOfCarve, jo
 use Rattle.engrave_core.specs.Commands.Check.{IsDueOfCheck, IsRefusalOfCheck}
 use Rattle.engrave_core.specs.Commands.Contacts.{IsDueOfContacts, IsRefusalOfTouching}
 use Rattle.engrave_core.specs.Commands.Cover.{IsDueOfCover, IsRefusalOfCover}
+use Rattle.engrave_core.specs.Commands.Flatten.{IsDueOfFlatten, IsRefusalOfFlatten}
 use Rattle.engrave_core.specs.Commands.Moves.{IsDueOfMoves, IsRefusalOfMoves}
 use Rattle.engrave_core.specs.Commands.Probe.{IsDueOfProbe, IsRefusalOfProbe}
 use Rattle.engrave_core.specs.Given.{cone_of}
@@ -15,6 +16,7 @@ pub mod Carve
 pub mod Check
 pub mod Contacts
 pub mod Cover
+pub mod Flatten
 pub mod Moves
 pub mod Probe
 
@@ -26,12 +28,14 @@ IsDueOfRequest files (request.Check shape code bit rmax) = IsDueOfCheck files sh
 IsDueOfRequest files (request.Contacts shape step rmax) = IsDueOfContacts files shape step rmax
 IsDueOfRequest files (request.Carve shape bit rmax step limit safe feed pitch) = IsDueOfCarve files shape (job_of shape.units (cone_of bit rmax) step limit safe feed) pitch
 IsDueOfRequest files (request.Cover shape code bit rmax pitch) = IsDueOfCover files shape code (cone_of bit rmax) pitch
+IsDueOfRequest files (request.Flatten shape) = IsDueOfFlatten files shape
 
 -- the refusals that there are, whatever the files have
 abbrev pub IsRefusalOfRequest : Request → Outcome → Type 0
-IsRefusalOfRequest (request.Probe shape at bit rmax limit) = IsRefusalOfProbe
+IsRefusalOfRequest (request.Probe shape at bit rmax limit) = IsRefusalOfProbe shape
 IsRefusalOfRequest (request.Moves code units) = IsRefusalOfMoves
-IsRefusalOfRequest (request.Check shape code bit rmax) = IsRefusalOfCheck
-IsRefusalOfRequest (request.Contacts shape step rmax) = IsRefusalOfTouching
-IsRefusalOfRequest (request.Carve shape bit rmax step limit safe feed pitch) = IsRefusalOfCarve
-IsRefusalOfRequest (request.Cover shape code bit rmax pitch) = IsRefusalOfCover
+IsRefusalOfRequest (request.Check shape code bit rmax) = IsRefusalOfCheck shape
+IsRefusalOfRequest (request.Contacts shape step rmax) = IsRefusalOfTouching shape
+IsRefusalOfRequest (request.Carve shape bit rmax step limit safe feed pitch) = IsRefusalOfCarve shape
+IsRefusalOfRequest (request.Cover shape code bit rmax pitch) = IsRefusalOfCover shape
+IsRefusalOfRequest (request.Flatten shape) = IsRefusalOfFlatten shape

@@ -1,7 +1,13 @@
 -- The line that reports a refusal.
 use Rattle.std.specs.Prelude.{ℕ, List, [], ◌++◌, codes, decimal}
+use Rattle.std.specs.Fmt.{signed_decimal}
+use Rattle.cxf_font.specs.Faults.{cxf_tail, lay_tail}
+use Rattle.cxf_font.specs.declared.fault.CxfFault.{CxfFault}
+use Rattle.cxf_font.specs.declared.lay_fault.LayFault.{LayFault}
+use Rattle.dxf_outline.specs.Faults.{dxf_tail}
+use Rattle.dxf_outline.specs.declared.fault.DxfFault.{DxfFault}
 use Rattle.engrave_core.specs.declared.outcome.InputFault.{InputFault}
-use Rattle.engrave_core.specs.declared.outcome.InputFault.TheVariants.{TooLong, Loops, Code, StepTooFine, TooMany}
+use Rattle.engrave_core.specs.declared.outcome.InputFault.TheVariants.{TooLong, Loops, Cxf, Dxf, Pbm, Lay, Pixels, Open, Cross, StepTooFine, TooMany, Code}
 use Rattle.engrave_core.specs.declared.outcome.Kind.{Kind}
 use Rattle.engrave_core.specs.declared.outcome.Kind.TheVariants.{Contacts, Nodes, Chains, Points}
 use Rattle.engrave_core.specs.declared.outcome.Outcome.{Outcome}
@@ -14,6 +20,8 @@ use Rattle.gouge_checker.specs.declared.verdict.Verdict.{Verdict}
 use Rattle.gouge_checker.specs.declared.verdict.Verdict.TheVariants as verdict
 use Rattle.loops_text.specs.Faults.{loops_tail}
 use Rattle.loops_text.specs.declared.fault.LoopsFault.{LoopsFault}
+use Rattle.pbm_edges.specs.Faults.{flat_words, pbm_words}
+use Rattle.plane_exact.specs.Plane.{GridPoint}
 
 -- what is wrong with a file, and the option that names it
 abbrev pub which_line : List ℕ → Which → List ℕ
@@ -23,6 +31,22 @@ which_line refusal which.Code = refusal ++ codes " code\n"
 -- input loops AT WORDS
 abbrev pub loops_line : LoopsFault → List ℕ
 loops_line fault = codes "input loops " ++ loops_tail fault ++ codes "\n"
+
+-- input dxf pair PAIR WORDS
+abbrev pub dxf_line : DxfFault → List ℕ
+dxf_line fault = codes "input dxf pair " ++ dxf_tail fault ++ codes "\n"
+
+-- input cxf line LINE WORDS
+abbrev pub cxf_line : CxfFault → List ℕ
+cxf_line fault = codes "input cxf line " ++ cxf_tail fault ++ codes "\n"
+
+-- input lay WORDS
+abbrev pub lay_line : LayFault → List ℕ
+lay_line fault = codes "input lay " ++ lay_tail fault ++ codes "\n"
+
+-- input open X,Y
+abbrev pub open_line : GridPoint → List ℕ
+open_line p = codes "input open " ++ signed_decimal p.x ++ codes "," ++ signed_decimal p.y ++ codes "\n"
 
 -- input code line LINE WORDS
 abbrev pub code_line : CodeFault → List ℕ
@@ -39,9 +63,16 @@ kind_words Points = codes "points"
 abbrev pub input_line : InputFault → List ℕ
 input_line (TooLong which) = which_line (codes "input too long") which
 input_line (Loops fault) = loops_line fault
-input_line (Code fault) = code_line fault
+input_line (Cxf fault) = cxf_line fault
+input_line (Dxf fault) = dxf_line fault
+input_line (Pbm fault) = codes "input pbm " ++ pbm_words fault ++ codes "\n"
+input_line (Lay fault) = lay_line fault
+input_line (Pixels fault) = codes "input pixels " ++ flat_words fault ++ codes "\n"
+input_line (Open p) = open_line p
+input_line (Cross i j) = codes "input cross " ++ decimal i ++ codes "," ++ decimal j ++ codes "\n"
 input_line (StepTooFine edge) = codes "input step too fine " ++ decimal edge ++ codes "\n"
 input_line (TooMany kind) = codes "input too many " ++ kind_words kind ++ codes "\n"
+input_line (Code fault) = code_line fault
 
 -- the line of a verdict that isn't `Clear`
 abbrev pub verdict_line : Verdict → List ℕ

@@ -1,6 +1,23 @@
 -- The refusal that reports a fault, and which refusals there are by what is read, whatever the files have.
-use Rattle.std.specs.Prelude.{◌≡◌, ◌≢◌, ◌⊎◌}
+use Rattle.std.specs.Prelude.{◌≡◌, ◌≢◌, ◌<◌, ◌⊎◌}
+use Rattle.cxf_font.specs.declared.fault.CxfFault.{CxfFault}
+use Rattle.cxf_font.specs.declared.fault.CxfKind.{CxfKind}
+use Rattle.cxf_font.specs.declared.fault.CxfKind.TheVariants as cxf
+use Rattle.cxf_font.specs.declared.lay_fault.LayFault.{LayFault}
+use Rattle.cxf_font.specs.declared.lay_fault.LayFault.TheVariants as lay
+use Rattle.dxf_outline.specs.declared.fault.DxfFault.{DxfFault}
+use Rattle.dxf_outline.specs.declared.fault.DxfKind.{DxfKind}
+use Rattle.dxf_outline.specs.declared.fault.DxfKind.TheVariants as dxf
+use Rattle.job_words.specs.declared.request.DrawingWords.{DrawingWords}
+use Rattle.job_words.specs.declared.request.FormWord.{FormWord}
+use Rattle.job_words.specs.declared.request.FormWord.TheVariants as form
+use Rattle.loop_join.specs.declared.joining.JoinFault.{JoinFault}
+use Rattle.loop_join.specs.declared.joining.JoinFault.TheVariants as join
 use Rattle.loops_text.specs.declared.fault.LoopsKind.TheVariants as loops
+use Rattle.pbm_edges.specs.declared.fault.FlatFault.{FlatFault}
+use Rattle.pbm_edges.specs.declared.fault.FlatFault.TheVariants as flat
+use Rattle.pbm_edges.specs.declared.fault.PbmFault.{PbmFault}
+use Rattle.pbm_edges.specs.declared.fault.PbmFault.TheVariants as pbm
 use Rattle.gcode_text.specs.declared.fault.FinishFault.{FinishFault}
 use Rattle.gcode_text.specs.declared.fault.FinishFault.TheVariants as finish
 use Rattle.job_words.specs.declared.fault.WordsFault.{WordsFault}
@@ -19,7 +36,7 @@ use Rattle.coverage_report.specs.declared.fault.CoverFault.{CoverFault}
 use Rattle.coverage_report.specs.declared.fault.CoverFault.TheVariants as cover
 use Rattle.tangent_disc.specs.declared.contact.ContactFault.{ContactFault}
 use Rattle.tangent_disc.specs.declared.contact.ContactFault.TheVariants as contact
-use Rattle.engrave_core.specs.declared.outcome.InputFault.TheVariants.{TooLong, Loops, Code as CodeOf, StepTooFine, TooMany}
+use Rattle.engrave_core.specs.declared.outcome.InputFault.TheVariants.{TooLong, Loops, Cxf, Dxf, Pbm, Lay, Pixels, Open, Cross, StepTooFine, TooMany, Code as CodeOf}
 use Rattle.engrave_core.specs.declared.outcome.Kind.TheVariants.{Contacts, Nodes, Chains, Points}
 use Rattle.engrave_core.specs.declared.outcome.Outcome.{Outcome}
 use Rattle.engrave_core.specs.declared.outcome.Outcome.TheVariants.{Input, Absent, ReadFault, Memory}
@@ -47,6 +64,42 @@ loops_refusal_by kind fault = refusal.Input (Loops fault)
 -- the refusal of a text that has no drawing in loops form
 abbrev pub loops_refusal : LoopsFault → Refusal
 loops_refusal fault = loops_refusal_by fault.kind fault
+
+abbrev cxf_refusal_by : CxfKind → CxfFault → Refusal
+cxf_refusal_by cxf.Memory fault = refusal.Memory
+cxf_refusal_by kind fault = refusal.Input (Cxf fault)
+
+-- the refusal of a file that is no CXF font
+abbrev pub cxf_refusal : CxfFault → Refusal
+cxf_refusal fault = cxf_refusal_by fault.kind fault
+
+-- the refusal of a text that can't be laid out
+abbrev pub lay_refusal : LayFault → Refusal
+lay_refusal lay.Memory = refusal.Memory
+lay_refusal fault = refusal.Input (Lay fault)
+
+abbrev dxf_refusal_by : DxfKind → DxfFault → Refusal
+dxf_refusal_by dxf.Memory fault = refusal.Memory
+dxf_refusal_by kind fault = refusal.Input (Dxf fault)
+
+-- the refusal of a DXF file that has no outline
+abbrev pub dxf_refusal : DxfFault → Refusal
+dxf_refusal fault = dxf_refusal_by fault.kind fault
+
+-- the refusal of a file that is no bitmap
+abbrev pub pbm_refusal : PbmFault → Refusal
+pbm_refusal pbm.Memory = refusal.Memory
+pbm_refusal fault = refusal.Input (Pbm fault)
+
+-- the refusal of a bitmap whose boundary doesn't fit the grid
+abbrev pub flat_refusal : FlatFault → Refusal
+flat_refusal flat.Memory = refusal.Memory
+flat_refusal fault = refusal.Input (Pixels fault)
+
+-- the refusal of segments that can't be joined
+abbrev pub join_refusal : JoinFault → Refusal
+join_refusal (join.Open p) = refusal.Input (Open p)
+join_refusal join.Memory = refusal.Memory
 
 -- the refusal of a text that is no G-code program of the profile
 abbrev pub code_refusal : FinishFault → Refusal
@@ -94,15 +147,54 @@ IsRefusalOfLoops (Input (Loops fault)) = fault.kind ≢ loops.Memory
 IsRefusalOfLoops Memory = Unit {0}
 IsRefusalOfLoops outcome = ⊥
 
+-- the refusals of a CXF font, and of laying out a text in it
+abbrev pub IsRefusalOfCxf : Outcome → Type 0
+IsRefusalOfCxf (Input (Cxf fault)) = fault.kind ≢ cxf.Memory
+IsRefusalOfCxf (Input (Lay fault)) = fault ≢ lay.Memory
+IsRefusalOfCxf Memory = Unit {0}
+IsRefusalOfCxf outcome = ⊥
+
+-- the refusals of a DXF file
+abbrev pub IsRefusalOfDxf : Outcome → Type 0
+IsRefusalOfDxf (Input (Dxf fault)) = fault.kind ≢ dxf.Memory
+IsRefusalOfDxf Memory = Unit {0}
+IsRefusalOfDxf outcome = ⊥
+
+-- the refusals of a bitmap
+abbrev pub IsRefusalOfPbm : Outcome → Type 0
+IsRefusalOfPbm (Input (Pbm fault)) = fault ≢ pbm.Memory
+IsRefusalOfPbm (Input (Pixels fault)) = fault ≢ flat.Memory
+IsRefusalOfPbm Memory = Unit {0}
+IsRefusalOfPbm outcome = ⊥
+
+-- the refusals of loose segments
+abbrev pub IsRefusalOfSegments : Outcome → Type 0
+IsRefusalOfSegments (Input (Open p)) = Unit {0}
+IsRefusalOfSegments Memory = Unit {0}
+IsRefusalOfSegments outcome = ⊥
+
+-- the refusals of a drawing's file by its form
+abbrev pub IsRefusalOfForm : FormWord → Outcome → Type 0
+IsRefusalOfForm form.Loops outcome = IsRefusalOfLoops outcome
+IsRefusalOfForm form.Dxf outcome = IsRefusalOfDxf outcome ⊎ IsRefusalOfSegments outcome
+IsRefusalOfForm form.Cxf outcome = IsRefusalOfCxf outcome ⊎ IsRefusalOfSegments outcome
+IsRefusalOfForm form.Pbm outcome = IsRefusalOfPbm outcome ⊎ IsRefusalOfSegments outcome
+
+-- the refusals of a drawing whose edges may cross
+abbrev pub IsRefusalOfEdges : Outcome → Type 0
+IsRefusalOfEdges (Input (Cross i j)) = i < j
+IsRefusalOfEdges Memory = Unit {0}
+IsRefusalOfEdges outcome = ⊥
+
 -- the refusals of a text as a G-code program
 abbrev pub IsRefusalOfCode : Outcome → Type 0
 IsRefusalOfCode (Input (CodeOf fault)) = Unit {0}
 IsRefusalOfCode Memory = Unit {0}
 IsRefusalOfCode outcome = ⊥
 
--- the refusals of the file that `--drawing` names
-abbrev pub IsRefusalOfStoredDrawing : Outcome → Type 0
-IsRefusalOfStoredDrawing outcome = IsRefusalOfFile Drawing outcome ⊎ IsRefusalOfLoops outcome
+-- the refusals of the drawing that the words name: of its file, of what the file says, and of its edges
+abbrev pub IsRefusalOfDrawing : DrawingWords → Outcome → Type 0
+IsRefusalOfDrawing shape outcome = IsRefusalOfFile Drawing outcome ⊎ (IsRefusalOfForm shape.form outcome ⊎ IsRefusalOfEdges outcome)
 
 -- the refusals of the file that `--code` names
 abbrev pub IsRefusalOfStoredCode : Outcome → Type 0

@@ -1,22 +1,19 @@
--- What the stored files of a command give: a drawing, the moves of a G-code program, or the refusal.
+-- What the stored files of a command give: bytes, the moves of a G-code program, or the refusal.
 use Rattle.std.specs.Prelude.{◌≡◌, ◌≤◌, ℕ, Option, List, Result, Ok, Err, IfErr, IfSome, MatchResult}
 use Rattle.gcode_text.specs.Moves.{moves_of}
 use Rattle.grid_num.specs.Judging.{and_then}
 use Rattle.grid_num.specs.declared.units.Units.{Units}
 use Rattle.gcode_text.specs.declared.state.TheConstants.{MOST_CODE_BYTES}
-use Rattle.loops_text.specs.Grammar.{loops_of}
-use Rattle.loops_text.specs.declared.reader.TheConstants.{MOST_DRAWING_BYTES}
-use Rattle.plane_exact.specs.Plane.{GridPoint}
 use Rattle.plane_exact.specs.declared.moves.LineMove.{LineMove}
 use Rattle.shop_port.specs.Counts.{Rose}
 use Rattle.shop_port.specs.Loading.{file_within}
 use Rattle.engrave_core.specs.Outcome.{IfAbsent, IfAnswered, outcome_of}
 use Rattle.engrave_core.specs.Refusals.{file_refusal}
-use Rattle.engrave_core.specs.declared.outcome.InputFault.TheVariants.{Loops, Code as CodeOf}
+use Rattle.engrave_core.specs.declared.outcome.InputFault.TheVariants.{Code as CodeOf}
 use Rattle.engrave_core.specs.declared.outcome.Outcome.{Outcome}
 use Rattle.engrave_core.specs.declared.outcome.Outcome.TheVariants.{ReadFault}
 use Rattle.engrave_core.specs.declared.outcome.Which.{Which}
-use Rattle.engrave_core.specs.declared.outcome.Which.TheVariants.{Drawing, Code}
+use Rattle.engrave_core.specs.declared.outcome.Which.TheVariants.{Code}
 use Rattle.engrave_core.specs.declared.refusal.Refusal.{Refusal}
 use Rattle.engrave_core.specs.declared.refusal.Refusal.TheVariants.{Input}
 
@@ -33,17 +30,9 @@ or_refused refusal (Err fault) = Err (refusal fault)
 abbrev pub bytes_of : Which → ℕ → Option (List ℕ) → Result (List ℕ) Refusal
 bytes_of which cap file = or_refused (file_refusal which) (file_within cap file)
 
--- the drawing of a text, or the refusal
-unfoldable pub drawing_of : List ℕ → Result (List (List GridPoint)) Refusal
-drawing_of text = or_refused (λ fault. Input (Loops fault)) (loops_of text)
-
 -- the moves of a text, or the refusal
 unfoldable pub code_of : Units → List ℕ → Result (List LineMove) Refusal
 code_of units text = or_refused (λ fault. Input (CodeOf fault)) (moves_of units text)
-
--- the drawing that the stored file of this name has, or the refusal
-unfoldable pub stored_drawing : Files → List ℕ → Result (List (List GridPoint)) Refusal
-stored_drawing files name = and_then (bytes_of Drawing MOST_DRAWING_BYTES (files name)) drawing_of
 
 -- the moves that the stored file of this name asks for, or the refusal
 unfoldable pub stored_code : Files → Units → List ℕ → Result (List LineMove) Refusal

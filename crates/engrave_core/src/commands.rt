@@ -12,6 +12,7 @@ mod carve;
 mod check;
 mod contacts;
 mod cover;
+mod flatten;
 mod moves;
 mod probe;
 
@@ -84,6 +85,7 @@ fn run<D: Depot>(alloc: Global, request: &Request, depot: &mut D) -> Result<Vec<
             rmax,
             pitch,
         } => cover::run(alloc, shape, code, &bit_of(*bit, *rmax), *pitch, depot),
+        Request::Flatten { shape } => flatten::run(alloc, shape, depot),
     }
 }
 

@@ -1,33 +1,16 @@
 // The files that a command names: loaded and read, or refused.
 ghost use Rattle.std.specs.Prelude.{◌≡◌, ◌≤◌, length, IfOk, IfErr};
-ghost use Rattle.engrave_core.specs.Stored.{AnswersFrom, IsReadAs, bytes_of, code_of, drawing_of, stored_code, stored_drawing};
+ghost use Rattle.engrave_core.specs.Stored.{AnswersFrom, IsReadAs, bytes_of, code_of, stored_code};
 ghost use Rattle.engrave_core.specs.Outcome.{outcome_of};
-ghost use Rattle.engrave_core.specs.Refusals.{IsRefusalOfCode, IsRefusalOfFile, IsRefusalOfStoredCode, IsRefusalOfStoredDrawing, IsRefusalOfLoops};
+ghost use Rattle.engrave_core.specs.Refusals.{IsRefusalOfCode, IsRefusalOfFile, IsRefusalOfStoredCode};
 
 use crate::outcome::{InputFault, Which};
 use crate::refusal::Refusal;
 use gcode_text::MOST_CODE_BYTES;
 use grid_num::Units;
-use loops_text::{Drawing, MOST_DRAWING_BYTES, read_loops};
 use plane_exact::LineMove;
 use shop_port::{Depot, LoadFault, load};
 use std::alloc::Global;
-
-/// The drawing in the file of this name, or the refusal.
-#[tactic(auto, unfolding(crate::specs::Stored::stored_drawing))]
-pub fn load_drawing<D: Depot>(alloc: Global, name: &str, depot: &mut D) -> Result<Drawing, Refusal>
-    ensures value { AnswersFrom D.held D.faults D.misses depot.old depot.new (λ files. IsReadAs (λ drawing. drawing) (stored_drawing files name.now)) result }
-    ensures refusal { IfErr result (λ refusal. IsRefusalOfStoredDrawing (outcome_of refusal)) }
-{
-    let bytes = load_file(
-        alloc,
-        name,
-        Which::Drawing,
-        MOST_DRAWING_BYTES as u64,
-        depot,
-    )?;
-    read_drawing(alloc, &bytes)
-}
 
 /// The moves of the G-code program in the file of this name, or the refusal.
 #[tactic(auto, unfolding(crate::specs::Stored::stored_code))]
@@ -45,7 +28,7 @@ pub fn load_code<D: Depot>(
 }
 
 /// The bytes of the file of this name, which may have up to `cap` bytes, or the refusal.
-fn load_file<D: Depot>(
+pub fn load_file<D: Depot>(
     alloc: Global,
     name: &str,
     which: Which,
@@ -63,16 +46,6 @@ fn load_file<D: Depot>(
         Err(LoadFault::TooLong) => Err(Refusal::Input(InputFault::TooLong(which))),
         Err(LoadFault::Memory) => Err(Refusal::Memory),
     }
-}
-
-/// The drawing of a text in loops form, or the refusal.
-#[tactic(auto, unfolding(crate::specs::Stored::drawing_of))]
-fn read_drawing(alloc: Global, bytes: &[u8]) -> Result<Drawing, Refusal>
-    requires { length bytes.now ≤ MOST_DRAWING_BYTES }
-    ensures value { IsReadAs (λ drawing. drawing) (drawing_of bytes.now) result }
-    ensures refusal { IfErr result (λ refusal. IsRefusalOfLoops (outcome_of refusal)) }
-{
-    Ok(read_loops(alloc, bytes)?)
 }
 
 /// The moves of a G-code program, or the refusal.

@@ -5,6 +5,7 @@
 #![tactic(auto)]
 
 mod commands;
+mod drawing;
 mod files;
 mod judged;
 mod line;

@@ -2,9 +2,13 @@
 ghost use Rattle.std.specs.Prelude.{◌≡◌};
 ghost use Rattle.engrave_core.specs.Outcome.{status_of};
 
+use cxf_font::{CxfFault, LayFault};
+use dxf_outline::DxfFault;
 use gcode_text::CodeFault;
 use gouge_checker::Verdict;
 use loops_text::LoopsFault;
+use pbm_edges::{FlatFault, PbmFault};
+use plane_exact::Point;
 
 /// What a run came to.
 #[derive(Clone, Copy, Debug, PartialEq, Eq)]
@@ -43,12 +47,26 @@ pub enum InputFault {
     TooLong(Which),
     /// The drawing isn't in loops form.
     Loops(LoopsFault),
-    /// The text isn't a G-code program of the profile.
-    Code(CodeFault),
+    /// The drawing is no CXF font.
+    Cxf(CxfFault),
+    /// The drawing is no DXF file with an outline.
+    Dxf(DxfFault),
+    /// The drawing is no PBM bitmap.
+    Pbm(PbmFault),
+    /// The text can't be laid out in the font's letters.
+    Lay(LayFault),
+    /// The boundary of the bitmap's black pixels doesn't fit the grid.
+    Pixels(FlatFault),
+    /// The first point, by the segments of the drawing, at which an odd number of them end: no loops can be made of them.
+    Open(Point),
+    /// The numbers of the first two edges of the drawing that cross or overlap, the lesser first.
+    Cross(u32, u32),
     /// The step divides the edge of this number, and none before it, into more than 8192 pieces.
     StepTooFine(u32),
     /// There is too much of something.
     TooMany(Kind),
+    /// The text isn't a G-code program of the profile.
+    Code(CodeFault),
 }
 
 /// What there can be too much of.

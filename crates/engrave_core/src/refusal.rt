@@ -5,10 +5,14 @@ use crate::outcome::{InputFault, Kind, Outcome, Which};
 use crate::stream::StreamFault;
 use carve_plan::PlanFault;
 use coverage_report::CoverFault;
+use cxf_font::{CxfFault, CxfKind, LayFault};
+use dxf_outline::{DxfFault, DxfKind};
 use gcode_text::FinishFault;
 use gouge_checker::Verdict;
 use job_words::WordsFault;
+use loop_join::JoinFault;
 use loops_text::{LoopsFault, LoopsKind};
+use pbm_edges::{FlatFault, PbmFault};
 use std::alloc::AllocError;
 use tangent_disc::ContactFault;
 
@@ -78,6 +82,84 @@ impl From<LoopsFault> for Refusal {
         match fault.kind {
             LoopsKind::Memory => Refusal::Memory,
             _ => Refusal::Input(InputFault::Loops(fault)),
+        }
+    }
+}
+
+impl From<CxfFault> for Refusal {
+    ghost use Rattle.engrave_core.specs.Refusals.{cxf_refusal};
+
+    ghost from_gives = { λ fault refusal. refusal ≡ cxf_refusal fault };
+
+    fn from(fault: CxfFault) -> Refusal {
+        match fault.kind {
+            CxfKind::Memory => Refusal::Memory,
+            _ => Refusal::Input(InputFault::Cxf(fault)),
+        }
+    }
+}
+
+impl From<LayFault> for Refusal {
+    ghost use Rattle.engrave_core.specs.Refusals.{lay_refusal};
+
+    ghost from_gives = { λ fault refusal. refusal ≡ lay_refusal fault };
+
+    fn from(fault: LayFault) -> Refusal {
+        match fault {
+            LayFault::Memory => Refusal::Memory,
+            _ => Refusal::Input(InputFault::Lay(fault)),
+        }
+    }
+}
+
+impl From<DxfFault> for Refusal {
+    ghost use Rattle.engrave_core.specs.Refusals.{dxf_refusal};
+
+    ghost from_gives = { λ fault refusal. refusal ≡ dxf_refusal fault };
+
+    fn from(fault: DxfFault) -> Refusal {
+        match fault.kind {
+            DxfKind::Memory => Refusal::Memory,
+            _ => Refusal::Input(InputFault::Dxf(fault)),
+        }
+    }
+}
+
+impl From<PbmFault> for Refusal {
+    ghost use Rattle.engrave_core.specs.Refusals.{pbm_refusal};
+
+    ghost from_gives = { λ fault refusal. refusal ≡ pbm_refusal fault };
+
+    fn from(fault: PbmFault) -> Refusal {
+        match fault {
+            PbmFault::Memory => Refusal::Memory,
+            _ => Refusal::Input(InputFault::Pbm(fault)),
+        }
+    }
+}
+
+impl From<FlatFault> for Refusal {
+    ghost use Rattle.engrave_core.specs.Refusals.{flat_refusal};
+
+    ghost from_gives = { λ fault refusal. refusal ≡ flat_refusal fault };
+
+    fn from(fault: FlatFault) -> Refusal {
+        match fault {
+            FlatFault::Memory => Refusal::Memory,
+            _ => Refusal::Input(InputFault::Pixels(fault)),
+        }
+    }
+}
+
+impl From<JoinFault> for Refusal {
+    ghost use Rattle.engrave_core.specs.Refusals.{join_refusal};
+
+    ghost from_gives = { λ fault refusal. refusal ≡ join_refusal fault };
+
+    fn from(fault: JoinFault) -> Refusal {
+        match fault {
+            JoinFault::Open(point) => Refusal::Input(InputFault::Open(point)),
+            JoinFault::Memory => Refusal::Memory,
         }
     }
 }

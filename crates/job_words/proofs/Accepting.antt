@@ -1,5 +1,5 @@
 -- What a command of options answers, by what `clap` says of it.
-use Rattle.std.proofs.Common.{◌≡◌, ◌≢◌, ◌∙◌, ◌+◌, ◌<◌, ⊎_elim, ℕ, true, false, sym, ap, ap₂, List, [], ◌∷◌, map, length, take, get_or, ne_eqb, arith}
+use Rattle.std.proofs.Common.{◌≡◌, ◌≢◌, ◌∙◌, ◌+◌, ◌<◌, ⊎_elim, ℕ, true, false, sym, ap, ap₂, List, [], ◌∷◌, ◌++◌, map, length, take, get_or, ne_eqb, arith, append_assoc}
 use Rattle.std.proofs.lemmas.List.{map-append, take_more}
 use Rattle.clap.specs.Faults.{fault_of, is_simple_and_free}
 use Rattle.clap.specs.Kinds.{HasKind, Kinds}
@@ -42,13 +42,15 @@ module _ (app : App) (options : List OptionRow) (words : List Text) (is : app �
       ap (λ a. is_empty (fault_of a words)) (sym is)
       ∙ some_kind (fault_of app words) error other (has (ap is_simple_and_free is ∙ options_app-free options))
 
--- a command with the first options and the next one has one more
-pub one_more : (options : List CommandOption) (place : ℕ) (default : CommandOption) (before after : App) (rule : Rule)
-    → place < length options → before ≡ options_app (map row_of (take place options))
+-- a command with options, the first of more and the next one has one more
+pub one_more : (first : List OptionRow) (options : List CommandOption) (place : ℕ) (default : CommandOption) (before after : App) (rule : Rule)
+    → place < length options → before ≡ options_app (first ++ map row_of (take place options))
     → rule ≡ option_rule (row_of (get_or options place default)) → after ≡ with_rule before rule
-    → after ≡ options_app (map row_of (take (place + 1) options))
-one_more options place default before after rule inside is rule_is added =
+    → after ≡ options_app (first ++ map row_of (take (place + 1) options))
+one_more first options place default before after rule inside is rule_is added =
     let option = get_or options place default in
-    added ∙ ap₂ with_rule is rule_is ∙ options_app-more (map row_of (take place options)) (row_of option)
-    ∙ ap options_app (sym (map-append row_of (take place options) (option ∷ [])))
-    ∙ ap (λ xs. options_app (map row_of xs)) (sym (take_more options place default inside))
+    let taken = take place options in
+    added ∙ ap₂ with_rule is rule_is ∙ options_app-more (first ++ map row_of taken) (row_of option)
+    ∙ ap options_app (append_assoc first (map row_of taken) (row_of option ∷ []))
+    ∙ ap (λ rows. options_app (first ++ rows)) (sym (map-append row_of taken (option ∷ [])))
+    ∙ ap (λ xs. options_app (first ++ map row_of xs)) (sym (take_more options place default inside))

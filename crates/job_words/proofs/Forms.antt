@@ -1,15 +1,15 @@
 -- Values that are in their forms and ranges: each option's value is there, or its default.
 use Rattle.std.proofs.Common.{◌≡◌, ◌∙◌, ℕ, Bool, cond, true, false, true≢false, refl, sym, ap, ap₂, List, [], ◌∷◌, codes, Option, Some, None, is_some}
 use Rattle.std.specs.List.{list_all}
-use Rattle.std.specs.Prelude.{option_and_then}
+use Rattle.std.specs.Prelude.{if◌then◌else◌, option_and_then, option_map}
 use Rattle.std.specs.Str.{bytes_eq}
 use Rattle.std.proofs.lemmas.Slice.Eq.{bytes_eq-Decides}
 use Rattle.clap.proofs.WalkLemmas.{both}
-use Rattle.grid_num.specs.declared.units.Units.{Units}
-use Rattle.job_words.specs.Plain.{GivenOption, given_value, is_in_form}
-use Rattle.job_words.specs.Shape.{shape_by, shape_of}
-use Rattle.job_words.specs.Values.{at_of, bit_of, feed_of, form_named, limit_of, number_of, or_default, pitch_of, point_of, rmax_of, safe_of, slope_of, step_of, units_named, units_of}
+use Rattle.job_words.specs.Plain.{GivenOption, given_value, has_needed, is_in_form, is_text_for, is_text_given}
+use Rattle.job_words.specs.Shape.{is_worded, lettering_of, shape_of, shape_options}
+use Rattle.job_words.specs.Values.{at_of, bit_of, charspace_of, chord_of, feed_of, form_named, form_of, height_of, justify_named, justify_of, letters_of, limit_of, linespace_of, number_of, or_default, pitch_of, pixel_of, point_of, rmax_of, safe_of, slope_of, snap_of, step_of, text_of, units_named, units_of, width_of, wordspace_of, yes_named, yes_of}
 use Rattle.job_words.specs.declared.request.FormWord.{FormWord}
+use Rattle.job_words.specs.declared.request.FormWord.TheVariants as form
 
 abbrev pub Is : {A : Type 0} → Option A → Type 0
 Is o = is_some o ≡ true
@@ -17,12 +17,23 @@ Is o = is_some o ≡ true
 pub none_is_not : {P : Type 0} → false ≡ true → P
 none_is_not e = absurd (true≢false (sym e))
 
-shape_by_some : (form : Option FormWord) (units : Option Units) (drawing : Option (List ℕ)) → Is form → Is units
-    → Is drawing → Is (shape_by form units drawing)
-shape_by_some (Some form) (Some units) (Some drawing) f u d = refl
-shape_by_some None units drawing f u d = none_is_not f
-shape_by_some (Some form) None drawing f u d = none_is_not u
-shape_by_some (Some form) (Some units) None f u d = none_is_not d
+-- what comes of a value that is there, is there too
+pub then_some_is : {A B : Type 0} (next : A → Option B) (o : Option A) → Is o → ((x : A) → o ≡ Some x → Is (next x)) → Is (option_and_then next o)
+then_some_is next (Some x) there later = later x refl
+then_some_is next None there later = none_is_not there
+
+mapped_some : {A : Type 0} (o : Option A) → Is o → Is (option_map Some o)
+mapped_some (Some x) there = refl
+mapped_some None there = none_is_not there
+
+-- where the test holds, what stands in its first branch is there
+cond_some : {A : Type 0} (test : Bool) (x : A) → test ≡ true → Is (if test then Some x else None)
+cond_some true x is = refl
+cond_some false x is = none_is_not is
+
+pub then_some : {A B : Type 0} (next : A → Option B) (o : Option A) → Is o → ((x : A) → Is (next x)) → Is (option_and_then next o)
+then_some next (Some x) there later = later x
+then_some next None there later = none_is_not there
 
 -- ---- values, by their forms
 
@@ -54,6 +65,19 @@ fits (given ∷ others) in_form name text is =
         ap₂ (λ n v. is_in_form (record { name = n; value = v })) (sym name_is) (sym value_is) ∙ here
     go here false other next = next (ap (λ b. cond b (Some given.value) (given_value others name)) (sym other) ∙ is)
 
+-- a text that is given is there
+is_worded_by : (form : FormWord) (text : Option (List ℕ)) (given : Option (List ℕ)) → text_of given ≡ Some text → is_text_for (Some form) given ≡ true → is_worded form text ≡ true
+is_worded_by form.Loops text given is worded = refl
+is_worded_by form.Dxf text given is worded = refl
+is_worded_by form.Pbm text given is worded = refl
+is_worded_by form.Cxf (Some text) given is worded = refl
+is_worded_by form.Cxf None None is worded = none_is_not worded
+is_worded_by form.Cxf None (Some text) is worded = absurd (never (letters_of text) is)
+  where
+    never : (o : Option (List ℕ)) → option_map Some o ≡ Some None → ⊥
+    never (Some x) same = cc
+    never None same = cc
+
 module _ (given : List GivenOption) (in_form : list_all is_in_form given ≡ true) where
   abbrev value : List ℕ → Option (List ℕ)
   value = given_value given
@@ -62,10 +86,10 @@ module _ (given : List GivenOption) (in_form : list_all is_in_form given ≡ tru
   bit_some there = needed_some slope_of (value (codes "bit")) there (fits given in_form (codes "bit"))
 
   pub rmax_some : Is (value (codes "rmax")) → Is (rmax_of (value (codes "rmax")))
-  rmax_some there = needed_some (number_of 8191) (value (codes "rmax")) there (fits given in_form (codes "rmax"))
+  rmax_some there = needed_some (number_of 1 8191) (value (codes "rmax")) there (fits given in_form (codes "rmax"))
 
   pub step_some : Is (value (codes "step")) → Is (step_of (value (codes "step")))
-  step_some there = needed_some (number_of 32767) (value (codes "step")) there (fits given in_form (codes "step"))
+  step_some there = needed_some (number_of 1 32767) (value (codes "step")) there (fits given in_form (codes "step"))
 
   pub units_some : Is (units_of (value (codes "units")))
   units_some = default_some _ units_named (value (codes "units")) (fits given in_form (codes "units"))
@@ -74,18 +98,77 @@ module _ (given : List GivenOption) (in_form : list_all is_in_form given ≡ tru
   at_some there = needed_some point_of (value (codes "at")) there (fits given in_form (codes "at"))
 
   pub limit_some : Is (limit_of (value (codes "limit")))
-  limit_some = default_some _ (number_of 32767) (value (codes "limit")) (fits given in_form (codes "limit"))
+  limit_some = default_some _ (number_of 1 32767) (value (codes "limit")) (fits given in_form (codes "limit"))
 
   pub safe_some : Is (safe_of (value (codes "safe")))
-  safe_some = default_some _ (number_of 32767) (value (codes "safe")) (fits given in_form (codes "safe"))
+  safe_some = default_some _ (number_of 1 32767) (value (codes "safe")) (fits given in_form (codes "safe"))
 
   pub feed_some : Is (feed_of (value (codes "feed")))
-  feed_some = default_some _ (number_of 10000) (value (codes "feed")) (fits given in_form (codes "feed"))
+  feed_some = default_some _ (number_of 1 10000) (value (codes "feed")) (fits given in_form (codes "feed"))
 
   pub pitch_some : Is (pitch_of (value (codes "pitch")))
-  pitch_some = default_some _ (number_of 32767) (value (codes "pitch")) (fits given in_form (codes "pitch"))
+  pitch_some = default_some _ (number_of 1 32767) (value (codes "pitch")) (fits given in_form (codes "pitch"))
 
-  pub shape_some : Is (value (codes "drawing")) → Is (shape_of value)
-  unfolding shape_of
-  shape_some there =
-      shape_by_some _ _ _ (default_some _ form_named (value (codes "form")) (fits given in_form (codes "form"))) units_some there
+  chord_some : Is (chord_of (value (codes "chord")))
+  chord_some = default_some _ (number_of 1 90) (value (codes "chord")) (fits given in_form (codes "chord"))
+
+  snap_some : Is (snap_of (value (codes "snap")))
+  snap_some = default_some _ (number_of 0 16) (value (codes "snap")) (fits given in_form (codes "snap"))
+
+  pixel_some : Is (pixel_of (value (codes "pixel")))
+  pixel_some = default_some _ (number_of 1 1000) (value (codes "pixel")) (fits given in_form (codes "pixel"))
+
+  height_some : Is (height_of (value (codes "height")))
+  height_some = default_some _ (number_of 1 32767) (value (codes "height")) (fits given in_form (codes "height"))
+
+  width_some : Is (width_of (value (codes "width")))
+  width_some = default_some _ (number_of 10 500) (value (codes "width")) (fits given in_form (codes "width"))
+
+  charspace_some : Is (charspace_of (value (codes "charspace")))
+  charspace_some = default_some _ (number_of 0 500) (value (codes "charspace")) (fits given in_form (codes "charspace"))
+
+  wordspace_some : Is (wordspace_of (value (codes "wordspace")))
+  wordspace_some = default_some _ (number_of 0 500) (value (codes "wordspace")) (fits given in_form (codes "wordspace"))
+
+  linespace_some : Is (linespace_of (value (codes "linespace")))
+  linespace_some = default_some _ (number_of 10 500) (value (codes "linespace")) (fits given in_form (codes "linespace"))
+
+  justify_some : Is (justify_of (value (codes "justify")))
+  justify_some = default_some _ (justify_named) (value (codes "justify")) (fits given in_form (codes "justify"))
+
+  yes_some : (name : List ℕ) → ((text : List ℕ) → value name ≡ Some text → Is (yes_named text)) → Is (yes_of (value name))
+  yes_some name fit = default_some _ yes_named (value name) fit
+
+  text_some : Is (text_of (value (codes "text")))
+  text_some =
+      default_some None (λ text. option_map Some (letters_of text)) (value (codes "text"))
+      (λ text is. mapped_some (letters_of text) (fits given in_form (codes "text") text is))
+
+  form_some : Is (form_of (value (codes "form")))
+  form_some = default_some _ form_named (value (codes "form")) (fits given in_form (codes "form"))
+
+  lettering_some : Is (lettering_of value)
+  unfolding lettering_of
+  lettering_some =
+      then_some _ (height_of (value (codes "height"))) height_some (λ height.
+      then_some _ (width_of (value (codes "width"))) width_some (λ width.
+      then_some _ (charspace_of (value (codes "charspace"))) charspace_some (λ charspace.
+      then_some _ (wordspace_of (value (codes "wordspace"))) wordspace_some (λ wordspace.
+      then_some _ (linespace_of (value (codes "linespace"))) linespace_some (λ linespace.
+      then_some _ (justify_of (value (codes "justify"))) justify_some (λ justify.
+      then_some _ (yes_of (value (codes "mirror"))) (yes_some (codes "mirror") (fits given in_form (codes "mirror"))) (λ mirror.
+      then_some _ (yes_of (value (codes "flip"))) (yes_some (codes "flip") (fits given in_form (codes "flip"))) (λ flip. refl))))))))
+
+  pub shape_some : is_text_given given ≡ true → list_all (has_needed given) shape_options ≡ true → Is (shape_of value)
+  unfolding shape_of shape_options
+  shape_some worded needed =
+      let drawing = both (is_some (value (codes "drawing"))) _ needed in
+      then_some_is _ (form_of (value (codes "form"))) form_some (λ form form_is.
+      then_some _ (units_of (value (codes "units"))) units_some (λ units.
+      then_some _ (chord_of (value (codes "chord"))) chord_some (λ chord.
+      then_some _ (snap_of (value (codes "snap"))) snap_some (λ snap.
+      then_some _ (pixel_of (value (codes "pixel"))) pixel_some (λ pixel.
+      then_some_is _ (text_of (value (codes "text"))) text_some (λ text text_is.
+      then_some _ (lettering_of value) lettering_some (λ lettering.
+      then_some _ (value (codes "drawing")) drawing.0 (λ drawing.
+      cond_some _ _ (is_worded_by form text (value (codes "text")) text_is (ap (λ o. is_text_for o (value (codes "text"))) (sym form_is) ∙ worded))))))))))

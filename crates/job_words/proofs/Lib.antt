@@ -5,6 +5,7 @@ pub mod CarveLaw
 pub mod CheckLaw
 pub mod ContactsLaw
 pub mod CoverLaw
+mod FlattenLaw
 pub mod Forms
 pub mod Laws
 pub mod MovesLaw

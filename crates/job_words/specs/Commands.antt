@@ -6,18 +6,20 @@ use Rattle.job_words.specs.Commands.Carve.{carve}
 use Rattle.job_words.specs.Commands.Check.{check}
 use Rattle.job_words.specs.Commands.Contacts.{contacts}
 use Rattle.job_words.specs.Commands.Cover.{cover}
+use Rattle.job_words.specs.Commands.Flatten.{flatten}
 use Rattle.job_words.specs.Commands.Moves.{moves}
 use Rattle.job_words.specs.Commands.Probe.{probe}
 pub mod Carve
 pub mod Check
 pub mod Contacts
 pub mod Cover
+pub mod Flatten
 pub mod Moves
 pub mod Probe
 
 -- every command of the program
 abbrev pub commands : List Command
-commands = probe ∷ moves ∷ check ∷ contacts ∷ carve ∷ cover ∷ []
+commands = probe ∷ moves ∷ check ∷ contacts ∷ carve ∷ cover ∷ flatten ∷ []
 
 -- the first of the commands that has this name
 abbrev pub named_among : List Command → List ℕ → Option Command

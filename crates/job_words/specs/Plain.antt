@@ -1,12 +1,14 @@
 -- Words of the form `--name=value`, and the law that they are accepted.
-use Rattle.std.specs.Prelude.{◌≡◌, ℕ, Bool, true, not, ◌&&◌, ◌||◌, if◌then◌else◌, Option, Some, None, List, [], ◌∷◌, ◌++◌, map, is_some, codes}
+use Rattle.std.specs.Prelude.{◌≡◌, ℕ, Bool, true, false, not, ◌&&◌, ◌||◌, if◌then◌else◌, Option, Some, None, List, [], ◌∷◌, ◌++◌, map, is_some, codes}
 use Rattle.std.specs.List.{list_all, list_any}
 use Rattle.std.specs.Str.{bytes_eq}
 use Rattle.clap.specs.Lexer.{has_byte}
 use Rattle.job_words.specs.Command.{Command}
 use Rattle.job_words.specs.Options.{OptionRow, is_accepted, value_in}
 use Rattle.job_words.specs.Request.{request_of}
-use Rattle.job_words.specs.Values.{point_of, slope_of, number_of, form_named, units_named}
+use Rattle.job_words.specs.Values.{form_named, form_of, justify_named, letters_of, number_of, point_of, slope_of, units_named, yes_named}
+use Rattle.job_words.specs.declared.request.FormWord.{FormWord}
+use Rattle.job_words.specs.declared.request.FormWord.TheVariants.{Cxf}
 
 -- an option with a value, which may be any text
 pub record GivenOption : Type 0 where
@@ -61,17 +63,38 @@ abbrev pub is_in_form : GivenOption → Bool
 is_in_form given =
     if bytes_eq given.name (codes "at") then is_some (point_of given.value)
     else if bytes_eq given.name (codes "bit") then is_some (slope_of given.value)
-    else if bytes_eq given.name (codes "rmax") then is_some (number_of 8191 given.value)
-    else if bytes_eq given.name (codes "step") then is_some (number_of 32767 given.value)
-    else if bytes_eq given.name (codes "limit") then is_some (number_of 32767 given.value)
-    else if bytes_eq given.name (codes "safe") then is_some (number_of 32767 given.value)
-    else if bytes_eq given.name (codes "feed") then is_some (number_of 10000 given.value)
-    else if bytes_eq given.name (codes "pitch") then is_some (number_of 32767 given.value)
+    else if bytes_eq given.name (codes "rmax") then is_some (number_of 1 8191 given.value)
+    else if bytes_eq given.name (codes "step") then is_some (number_of 1 32767 given.value)
+    else if bytes_eq given.name (codes "limit") then is_some (number_of 1 32767 given.value)
+    else if bytes_eq given.name (codes "safe") then is_some (number_of 1 32767 given.value)
+    else if bytes_eq given.name (codes "feed") then is_some (number_of 1 10000 given.value)
+    else if bytes_eq given.name (codes "pitch") then is_some (number_of 1 32767 given.value)
     else if bytes_eq given.name (codes "form") then is_some (form_named given.value)
     else if bytes_eq given.name (codes "units") then is_some (units_named given.value)
+    else if bytes_eq given.name (codes "chord") then is_some (number_of 1 90 given.value)
+    else if bytes_eq given.name (codes "snap") then is_some (number_of 0 16 given.value)
+    else if bytes_eq given.name (codes "pixel") then is_some (number_of 1 1000 given.value)
+    else if bytes_eq given.name (codes "text") then is_some (letters_of given.value)
+    else if bytes_eq given.name (codes "height") then is_some (number_of 1 32767 given.value)
+    else if bytes_eq given.name (codes "width") then is_some (number_of 10 500 given.value)
+    else if bytes_eq given.name (codes "charspace") then is_some (number_of 0 500 given.value)
+    else if bytes_eq given.name (codes "wordspace") then is_some (number_of 0 500 given.value)
+    else if bytes_eq given.name (codes "linespace") then is_some (number_of 10 500 given.value)
+    else if bytes_eq given.name (codes "justify") then is_some (justify_named given.value)
+    else if bytes_eq given.name (codes "mirror") then is_some (yes_named given.value)
+    else if bytes_eq given.name (codes "flip") then is_some (yes_named given.value)
     else true
 
--- and where each value is in its form and range, there is such a request
+-- a text is there where the form is a font's
+abbrev pub is_text_for : Option FormWord → Option (List ℕ) → Bool
+is_text_for (Some Cxf) None = false
+is_text_for form text = true
+
+-- a text is given where the form is a font's
+abbrev pub is_text_given : List GivenOption → Bool
+is_text_given given = is_text_for (form_of (given_value given (codes "form"))) (given_value given (codes "text"))
+
+-- and where each value is in its form and range, and a font has its text, there is such a request
 abbrev pub IsAcceptedInForm : Command → List GivenOption → Type 0
 IsAcceptedInForm command given =
-    list_all is_in_form given ≡ true → is_some (request_of (command.name ∷ map plain_word given)) ≡ true
+    list_all is_in_form given ≡ true → is_text_given given ≡ true → is_some (request_of (command.name ∷ map plain_word given)) ≡ true

@@ -8,6 +8,7 @@ use Rattle.job_words.specs.Commands.Contacts.{IsContactsInRange}
 use Rattle.job_words.specs.Commands.Cover.{IsCoverInRange}
 use Rattle.job_words.specs.Commands.Probe.{IsProbeInRange}
 use Rattle.job_words.specs.Options.{is_accepted, value_in}
+use Rattle.job_words.specs.Shape.{IsShapeInRange}
 use Rattle.job_words.specs.declared.request.Request.{Request}
 use Rattle.job_words.specs.declared.request.Request.TheVariants as request
 
@@ -24,9 +25,10 @@ request_of (name ∷ options) =
 
 -- the numbers of a request are in their ranges
 abbrev pub IsInRange : Request → Type 0
-IsInRange (request.Probe shape at bit rmax limit) = IsProbeInRange bit rmax limit
+IsInRange (request.Probe shape at bit rmax limit) = IsShapeInRange shape × IsProbeInRange bit rmax limit
 IsInRange (request.Moves code units) = Unit {0}
-IsInRange (request.Check shape code bit rmax) = IsCone bit.0 bit.1 rmax
-IsInRange (request.Contacts shape step rmax) = IsContactsInRange step rmax
-IsInRange (request.Carve shape bit rmax step limit safe feed pitch) = IsCarveInRange bit rmax step limit safe feed pitch
-IsInRange (request.Cover shape code bit rmax pitch) = IsCoverInRange bit rmax pitch
+IsInRange (request.Check shape code bit rmax) = IsShapeInRange shape × IsCone bit.0 bit.1 rmax
+IsInRange (request.Contacts shape step rmax) = IsShapeInRange shape × IsContactsInRange step rmax
+IsInRange (request.Carve shape bit rmax step limit safe feed pitch) = IsShapeInRange shape × IsCarveInRange bit rmax step limit safe feed pitch
+IsInRange (request.Cover shape code bit rmax pitch) = IsShapeInRange shape × IsCoverInRange bit rmax pitch
+IsInRange (request.Flatten shape) = IsShapeInRange shape

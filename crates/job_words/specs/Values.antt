@@ -1,12 +1,16 @@
 -- What the value of an option writes, and the defaults.
-use Rattle.std.specs.Prelude.{ℕ, ◌&&◌, if◌then◌else◌, Option, Some, None, List, codes, ℤ, pos, int_le, nat_abs, option_and_then}
-use Rattle.std.specs.Str.{bytes_eq}
+use Rattle.std.specs.Prelude.{ℕ, ◌&&◌, if◌then◌else◌, Option, Some, None, List, codes, length, ℤ, pos, int_le, nat_abs, nat_le, option_and_then, option_map}
+use Rattle.std.specs.Str.{bytes_eq, chars}
 use Rattle.grid_num.specs.Whole.{whole_of, both, pair_of}
 use Rattle.grid_num.specs.declared.units.Units.{Units}
 use Rattle.grid_num.specs.declared.units.Units.TheVariants.{Mm10, Mm100, Mm1000, In100, In1000}
 use Rattle.plane_exact.specs.Plane.{GridPoint, is_coordinate}
 use Rattle.job_words.specs.declared.request.FormWord.{FormWord}
-use Rattle.job_words.specs.declared.request.FormWord.TheVariants.{Loops}
+use Rattle.job_words.specs.declared.request.FormWord.TheVariants.{Loops, Dxf, Cxf, Pbm}
+use Rattle.job_words.specs.declared.request.JustifyWord.{JustifyWord}
+use Rattle.job_words.specs.declared.request.JustifyWord.TheVariants.{Left, Center, Right}
+use Rattle.job_words.specs.declared.request.YesNo.{YesNo}
+use Rattle.job_words.specs.declared.request.YesNo.TheVariants.{Yes, No}
 
 -- a point of the grid, where both are coordinates
 abbrev pub on_grid : ℤ × ℤ → Option GridPoint
@@ -16,17 +20,17 @@ on_grid (x, y) = if is_coordinate x && is_coordinate y then Some (record { x = x
 abbrev pub point_of : List ℕ → Option GridPoint
 point_of text = option_and_then on_grid (pair_of 44 text)
 
--- a number from 1 to the most
-abbrev pub from_one_to : ℕ → ℤ → Option ℕ
-from_one_to most z = if int_le (pos 1) z && int_le z (pos most) then Some (nat_abs z) else None
+-- a number from the least to the most
+abbrev pub within : (least most : ℕ) → ℤ → Option ℕ
+within least most z = if int_le (pos least) z && int_le z (pos most) then Some (nat_abs z) else None
 
--- a whole number from 1 to the most
-abbrev pub number_of : ℕ → List ℕ → Option ℕ
-number_of most text = option_and_then (from_one_to most) (whole_of text)
+-- a whole number from the least to the most
+abbrev pub number_of : (least most : ℕ) → List ℕ → Option ℕ
+number_of least most text = option_and_then (within least most) (whole_of text)
 
 -- two numbers from 1 to 2000
 abbrev pub both_to_2000 : ℤ × ℤ → Option (ℕ × ℕ)
-both_to_2000 (sn, sd) = both (from_one_to 2000 sn) (from_one_to 2000 sd)
+both_to_2000 (sn, sd) = both (within 1 2000 sn) (within 1 2000 sd)
 
 -- two numbers from 1 to 2000 with a slash (47) between them
 abbrev pub slope_of : List ℕ → Option (ℕ × ℕ)
@@ -34,7 +38,28 @@ slope_of text = option_and_then both_to_2000 (pair_of 47 text)
 
 -- the form of a drawing's file
 abbrev pub form_named : List ℕ → Option FormWord
-form_named text = if bytes_eq text (codes "loops") then Some Loops else None
+form_named text =
+    if bytes_eq text (codes "loops") then Some Loops
+    else if bytes_eq text (codes "dxf") then Some Dxf
+    else if bytes_eq text (codes "cxf") then Some Cxf
+    else if bytes_eq text (codes "pbm") then Some Pbm
+    else None
+
+-- which part of a line stands at x = 0
+abbrev pub justify_named : List ℕ → Option JustifyWord
+justify_named text =
+    if bytes_eq text (codes "left") then Some Left
+    else if bytes_eq text (codes "center") then Some Center
+    else if bytes_eq text (codes "right") then Some Right
+    else None
+
+-- yes or no
+abbrev pub yes_named : List ℕ → Option YesNo
+yes_named text = if bytes_eq text (codes "yes") then Some Yes else if bytes_eq text (codes "no") then Some No else None
+
+-- a text of 1 to 200 characters
+abbrev pub letters_of : List ℕ → Option (List ℕ)
+letters_of text = let count = length (chars text) in if nat_le 1 count && nat_le count 200 then Some text else None
 
 -- the grid of a job
 abbrev pub units_named : List ℕ → Option Units
@@ -63,27 +88,27 @@ bit_of = option_and_then slope_of
 
 -- `--rmax`, from 1 to 8191
 abbrev pub rmax_of : Option (List ℕ) → Option ℕ
-rmax_of = option_and_then (number_of 8191)
+rmax_of = option_and_then (number_of 1 8191)
 
 -- `--step`, from 1 to 32,767
 abbrev pub step_of : Option (List ℕ) → Option ℕ
-step_of = option_and_then (number_of 32767)
+step_of = option_and_then (number_of 1 32767)
 
 -- `--limit`, from 1 to 32,767, and that where it isn't given
 abbrev pub limit_of : Option (List ℕ) → Option ℕ
-limit_of = or_default 32767 (number_of 32767)
+limit_of = or_default 32767 (number_of 1 32767)
 
 -- `--safe`, from 1 to 32,767, and 200 where it isn't given
 abbrev pub safe_of : Option (List ℕ) → Option ℕ
-safe_of = or_default 200 (number_of 32767)
+safe_of = or_default 200 (number_of 1 32767)
 
 -- `--feed`, from 1 to 10,000, and 500 where it isn't given
 abbrev pub feed_of : Option (List ℕ) → Option ℕ
-feed_of = or_default 500 (number_of 10000)
+feed_of = or_default 500 (number_of 1 10000)
 
 -- `--pitch`, from 1 to 32,767, and 10 where it isn't given
 abbrev pub pitch_of : Option (List ℕ) → Option ℕ
-pitch_of = or_default 10 (number_of 32767)
+pitch_of = or_default 10 (number_of 1 32767)
 
 -- `--form`, loops where it isn't given
 abbrev pub form_of : Option (List ℕ) → Option FormWord
@@ -92,3 +117,47 @@ form_of = or_default Loops form_named
 -- `--units`, 100 grid units a millimetre where they aren't given
 abbrev pub units_of : Option (List ℕ) → Option Units
 units_of = or_default Mm100 units_named
+
+-- `--chord`, from 1 to 90, and 10 where it isn't given
+abbrev pub chord_of : Option (List ℕ) → Option ℕ
+chord_of = or_default 10 (number_of 1 90)
+
+-- `--snap`, from 0 to 16, and 1 where it isn't given
+abbrev pub snap_of : Option (List ℕ) → Option ℕ
+snap_of = or_default 1 (number_of 0 16)
+
+-- `--pixel`, from 1 to 1000, and 10 where it isn't given
+abbrev pub pixel_of : Option (List ℕ) → Option ℕ
+pixel_of = or_default 10 (number_of 1 1000)
+
+-- `--text`, of 1 to 200 characters; none where it isn't given
+abbrev pub text_of : Option (List ℕ) → Option (Option (List ℕ))
+text_of = or_default None (λ text. option_map Some (letters_of text))
+
+-- `--height`, from 1 to 32,767, and 900 where it isn't given
+abbrev pub height_of : Option (List ℕ) → Option ℕ
+height_of = or_default 900 (number_of 1 32767)
+
+-- `--width`, from 10 to 500, and 100 where it isn't given
+abbrev pub width_of : Option (List ℕ) → Option ℕ
+width_of = or_default 100 (number_of 10 500)
+
+-- `--charspace`, from 0 to 500, and 25 where it isn't given
+abbrev pub charspace_of : Option (List ℕ) → Option ℕ
+charspace_of = or_default 25 (number_of 0 500)
+
+-- `--wordspace`, from 0 to 500, and 100 where it isn't given
+abbrev pub wordspace_of : Option (List ℕ) → Option ℕ
+wordspace_of = or_default 100 (number_of 0 500)
+
+-- `--linespace`, from 10 to 500, and 150 where it isn't given
+abbrev pub linespace_of : Option (List ℕ) → Option ℕ
+linespace_of = or_default 150 (number_of 10 500)
+
+-- `--justify`, left where it isn't given
+abbrev pub justify_of : Option (List ℕ) → Option JustifyWord
+justify_of = or_default Left justify_named
+
+-- `--mirror` and `--flip`, no where they aren't given
+abbrev pub yes_of : Option (List ℕ) → Option YesNo
+yes_of = or_default No yes_named

@@ -4,5 +4,6 @@ pub mod carve;
 pub mod check;
 pub mod contacts;
 pub mod cover;
+pub mod flatten;
 pub mod moves;
 pub mod probe;

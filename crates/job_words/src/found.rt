@@ -1,15 +1,13 @@
 // The options that commands have, and the values that were found for them, None where one isn't in its form and range.
-ghost use Rattle.std.specs.Prelude.{◌≡◌, IfOk, IfSome, Some, None, Err, codes};
+ghost use Rattle.std.specs.Prelude.{◌≡◌, ◌≤◌, IfOk, IfSome, Some, None, Err, codes};
 ghost use Rattle.clap.specs.Words.{first_value, found_of};
 ghost use Rattle.plane_exact.specs.Cone.{IsFromOneTo};
-ghost use Rattle.job_words.specs.Values.{at_of, bit_of, rmax_of, step_of, limit_of, safe_of, feed_of, pitch_of, form_of, number_of, or_default, units_of};
-ghost use Rattle.job_words.specs.Shape.{shape_of};
+ghost use Rattle.job_words.specs.Values.{at_of, bit_of, rmax_of, step_of, limit_of, safe_of, feed_of, pitch_of, number_of, or_default, units_of};
 
 use crate::fault::WordsFault;
 use crate::options::CommandOption;
-use crate::request::{DrawingWords, FormWord};
 use crate::text::Text;
-use crate::values::{read_form, read_number, read_point, read_slope, read_units};
+use crate::values::{read_number, read_point, read_slope, read_units};
 use clap::ArgMatches;
 use grid_num::Units;
 use plane_exact::Point;
@@ -55,16 +53,6 @@ pub const PITCH: CommandOption = CommandOption {
     required: false,
 };
 
-pub const DRAWING: CommandOption = CommandOption {
-    name: "drawing",
-    required: true,
-};
-
-pub const FORM: CommandOption = CommandOption {
-    name: "form",
-    required: false,
-};
-
 pub const UNITS: CommandOption = CommandOption {
     name: "units",
     required: false,
@@ -92,14 +80,14 @@ pub fn rmax_in(found: &ArgMatches) -> Option<u32>
     ensures value { result ≡ rmax_of (first_value (found_of found.now) (codes "rmax")) }
     ensures range { IfSome result (IsFromOneTo 8191) }
 {
-    read_number(found.get_str("rmax")?, 8191)
+    read_number(found.get_str("rmax")?, 1, 8191)
 }
 
 pub fn step_in(found: &ArgMatches) -> Option<u32>
     ensures value { result ≡ step_of (first_value (found_of found.now) (codes "step")) }
     ensures range { IfSome result (IsFromOneTo 32767) }
 {
-    read_number(found.get_str("step")?, 32_767)
+    read_number(found.get_str("step")?, 1, 32_767)
 }
 
 /// 32,767 where the option isn't given.
@@ -107,7 +95,7 @@ pub fn limit_in(found: &ArgMatches) -> Option<u32>
     ensures value { result ≡ limit_of (first_value (found_of found.now) (codes "limit")) }
     ensures range { IfSome result (IsFromOneTo 32767) }
 {
-    number_in(found, "limit", 32_767, 32_767)
+    number_in(found, "limit", 32_767, 1, 32_767)
 }
 
 /// 200 where the option isn't given.
@@ -115,7 +103,7 @@ pub fn safe_in(found: &ArgMatches) -> Option<u32>
     ensures value { result ≡ safe_of (first_value (found_of found.now) (codes "safe")) }
     ensures range { IfSome result (IsFromOneTo 32767) }
 {
-    number_in(found, "safe", 200, 32_767)
+    number_in(found, "safe", 200, 1, 32_767)
 }
 
 /// 500 where the option isn't given.
@@ -123,7 +111,7 @@ pub fn feed_in(found: &ArgMatches) -> Option<u32>
     ensures value { result ≡ feed_of (first_value (found_of found.now) (codes "feed")) }
     ensures range { IfSome result (IsFromOneTo 10000) }
 {
-    number_in(found, "feed", 500, 10_000)
+    number_in(found, "feed", 500, 1, 10_000)
 }
 
 /// 10 where the option isn't given.
@@ -131,28 +119,20 @@ pub fn pitch_in(found: &ArgMatches) -> Option<u32>
     ensures value { result ≡ pitch_of (first_value (found_of found.now) (codes "pitch")) }
     ensures range { IfSome result (IsFromOneTo 32767) }
 {
-    number_in(found, "pitch", 10, 32_767)
+    number_in(found, "pitch", 10, 1, 32_767)
 }
 
-// A number from 1 to the most, or the default where the option isn't given.
-fn number_in(found: &ArgMatches, name: &str, default: u32, most: u32) -> Option<u32>
-    requires { IsFromOneTo most default }
-    ensures value { result ≡ or_default default (number_of most) (first_value (found_of found.now) name.now) }
-    ensures range { IfSome result (IsFromOneTo most) }
+/// A number from the least to the most, or the default where the option isn't given.
+pub fn number_in(found: &ArgMatches, name: &str, default: u32, least: u32, most: u32) -> Option<u32>
+    requires low { least ≤ default }
+    requires high { default ≤ most }
+    ensures value { result ≡ or_default default (number_of least most) (first_value (found_of found.now) name.now) }
+    ensures low { IfSome result (λ number. least ≤ number) }
+    ensures high { IfSome result (λ number. number ≤ most) }
 {
     match found.get_str(name) {
-        Some(text) => read_number(text, most),
+        Some(text) => read_number(text, least, most),
         None => Some(default),
-    }
-}
-
-/// Loops where the option isn't given.
-fn form_in(found: &ArgMatches) -> Option<FormWord>
-    ensures { result ≡ form_of (first_value (found_of found.now) (codes "form")) }
-{
-    match found.get_str("form") {
-        Some(text) => read_form(text),
-        None => Some(FormWord::Loops),
     }
 }
 
@@ -173,21 +153,4 @@ pub fn text_in(alloc: Global, found: &ArgMatches, name: &str) -> Result<Text, Wo
 {
     let text = found.get_str(name).ok_or(WordsFault::Usage)?;
     Ok(Text::new(String::from_str(alloc, text)?))
-}
-
-/// The options that say which drawing a command is about.
-#[tactic(auto, unfolding(crate::specs::Shape::shape_of))]
-pub fn shape_in(alloc: Global, found: &ArgMatches) -> Result<DrawingWords, WordsFault>
-    ensures accepted { IfOk result (λ words. shape_of (first_value (found_of found.now)) ≡ Some words) }
-    ensures usage { result ≡ Err WordsFault.Usage
-        → shape_of (first_value (found_of found.now)) ≡ None }
-{
-    let form = form_in(found).ok_or(WordsFault::Usage)?;
-    let units = units_in(found).ok_or(WordsFault::Usage)?;
-    let drawing = text_in(alloc, found, "drawing")?;
-    Ok(DrawingWords {
-        drawing,
-        form,
-        units,
-    })
 }

@@ -10,6 +10,7 @@ mod found;
 pub mod law;
 mod options;
 mod request;
+mod shape;
 #[cfg(test)]
 mod tests;
 mod text;
@@ -17,6 +18,6 @@ mod values;
 mod words;
 
 pub use fault::WordsFault;
-pub use request::{DrawingWords, FormWord, Request};
+pub use request::{DrawingWords, FormWord, JustifyWord, Request, YesNo};
 pub use text::Text;
 pub use words::read_words;

@@ -9,6 +9,30 @@ use plane_exact::Point;
 pub enum FormWord {
     /// Loops of points, a loop a line.
     Loops,
+    /// DXF R12: lines, circles, arcs and polylines, whose segments are joined into loops.
+    Dxf,
+    /// A CXF font, in whose letters a text is laid out.
+    Cxf,
+    /// A PBM bitmap, of whose black pixels the boundary is taken.
+    Pbm,
+}
+
+/// Which part of each line of a text stands at x = 0.
+#[derive(Clone, Copy, Debug, PartialEq, Eq)]
+pub enum JustifyWord {
+    /// Its beginning.
+    Left,
+    /// Its middle.
+    Center,
+    /// Its end.
+    Right,
+}
+
+/// Yes or no.
+#[derive(Clone, Copy, Debug, PartialEq, Eq)]
+pub enum YesNo {
+    Yes,
+    No,
 }
 
 /// The words that say which drawing a command is about.
@@ -18,6 +42,29 @@ pub struct DrawingWords {
     pub drawing: Text,
     pub form: FormWord,
     pub units: Units,
+    /// The greatest angle of a straight piece of an arc, in degrees, from 1 to 90.
+    pub chord: u32,
+    /// How far apart two ends of segments may be to be taken as one point, in grid units in each direction, from 0 to 16.
+    pub snap: u32,
+    /// The side of a bitmap's pixel, in grid units, from 1 to 1000.
+    pub pixel: u32,
+    /// The text that is laid out, of 1 to 200 characters; a line feed ends a line. It is there where the form is `Cxf`.
+    pub text: Option<Text>,
+    /// The height of nine units of a font, in grid units, from 1 to 32,767.
+    pub height: u32,
+    /// How wide letters are, in percent of the font's, from 10 to 500.
+    pub width: u32,
+    /// The space behind each letter, in percent of the height, from 0 to 500.
+    pub charspace: u32,
+    /// The width of a space, in percent of the height, from 0 to 500.
+    pub wordspace: u32,
+    /// The distance between lines, in percent of the height, from 10 to 500.
+    pub linespace: u32,
+    pub justify: JustifyWord,
+    /// Whether left and right are exchanged.
+    pub mirror: YesNo,
+    /// Whether top and bottom are.
+    pub flip: YesNo,
 }
 
 /// A command with the values of its options.
@@ -87,5 +134,9 @@ pub enum Request {
         rmax: u32,
         /// As in `Carve`.
         pitch: u32,
+    },
+    /// The drawing in loops form.
+    Flatten {
+        shape: DrawingWords,
     },
 }

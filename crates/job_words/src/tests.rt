@@ -4,6 +4,7 @@ mod carve;
 mod check;
 mod contacts;
 mod cover;
+mod flatten;
 mod moves;
 mod probe;
 
@@ -28,6 +29,20 @@ fn shape_text(alloc: Global, shape: &DrawingWords) -> Result<String, AllocError>
     let form = shape.form;
     let units = shape.units;
     format!(in alloc; "{drawing} {form:?} {units:?}")
+}
+
+/// The words of a text as text.
+fn lettering_text(alloc: Global, shape: &DrawingWords) -> Result<String, AllocError> {
+    let letters = match &shape.text {
+        Some(text) => text.as_str(),
+        None => "",
+    };
+    let (height, width) = (shape.height, shape.width);
+    let (charspace, wordspace, linespace) = (shape.charspace, shape.wordspace, shape.linespace);
+    let (justify, mirror, flip) = (shape.justify, shape.mirror, shape.flip);
+    format!(in alloc;
+        "{letters} {height} {width} {charspace} {wordspace} {linespace} {justify:?} {mirror:?} {flip:?}"
+    )
 }
 
 /// What a line asks for, as text: the values of its command, `usage` or `memory`.
@@ -98,6 +113,12 @@ fn text_of_request(alloc: Global, request: &Request) -> Result<String, AllocErro
             let (sn, sd) = *bit;
             format!(in alloc; "{shape} {code} {sn}/{sd} {rmax} {pitch}")
         }
+        Request::Flatten { shape } => {
+            let text = shape_text(alloc, shape)?;
+            let (chord, snap, pixel) = (shape.chord, shape.snap, shape.pixel);
+            let lettering = lettering_text(alloc, shape)?;
+            format!(in alloc; "{text} {chord} {snap} {pixel} {lettering}")
+        }
     }
 }
 
@@ -108,6 +129,7 @@ fn lines_ask_for_their_values(rt: HostRuntime) -> Result<(), Fail> {
         check::LINES.as_slice(),
         contacts::LINES.as_slice(),
         cover::LINES.as_slice(),
+        flatten::LINES.as_slice(),
         moves::LINES.as_slice(),
         probe::LINES.as_slice(),
     ] {

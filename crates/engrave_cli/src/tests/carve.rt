@@ -89,7 +89,7 @@ fn carving_is_refused_in_its_order(rt: HostRuntime) -> Result<(), Fail> {
     for (words, drawing, line, want) in [
         (
             "carve --drawing=d --bit=1/1 --rmax=1 --step=5",
-            "0,0 9,9 9,0\n0,0 32767,32767 32767,32766 0,9",
+            "0,-9 9,-1 9,-9\n0,0 32767,32766 32767,32767 0,1",
             "input step too fine 3\n",
             3,
         ),
@@ -129,15 +129,23 @@ fn carving_is_refused_in_its_order(rt: HostRuntime) -> Result<(), Fail> {
     Ok(())
 }
 
-/// Four squares of 8188 pieces a side, and so many small ones of one. Where no depth fits, each node of a loop is a chain, the first twice.
-fn squares(alloc: Global, small: u32) -> Result<String, Fail> {
+/// Four squares of 8188 pieces a side, and so many small ones of one and small triangles of one. Where no depth fits, each node of a
+/// loop is a chain, the first twice.
+fn squares(alloc: Global, small: u32, triangles: u32) -> Result<String, Fail> {
     let mut drawing = String::from_str(
         alloc,
         "-32768,-32768 -16,-32768 -16,-16 -32768,-16\n0,-32768 32752,-32768 32752,-16 0,-16\n\
          -32768,0 -16,0 -16,32752 -32768,32752\n0,0 32752,0 32752,32752 0,32752\n",
     )?;
-    for _ in 0..small {
-        drawing.push_str("-10,9 -6,9 -6,13 -10,13\n")?;
+    for number in 0..small {
+        let (low, high) = (9 + 20 * number, 13 + 20 * number);
+        let square = format!(in alloc; "-10,{low} -6,{low} -6,{high} -10,{high}\n")?;
+        drawing.push_str(square.as_str())?;
+    }
+    for number in 0..triangles {
+        let (low, high) = (1009 + 20 * number, 1011 + 20 * number);
+        let triangle = format!(in alloc; "-10,{low} -8,{low} -8,{high}\n")?;
+        drawing.push_str(triangle.as_str())?;
     }
     Ok(drawing)
 }
@@ -146,7 +154,7 @@ fn squares(alloc: Global, small: u32) -> Result<String, Fail> {
 fn there_may_be_so_many_chains_and_no_more(rt: HostRuntime) -> Result<(), Fail> {
     let words = "carve --drawing=d --bit=2/1 --rmax=1 --step=4 --pitch=32767";
     // 4 * 32,753 + 12 * 5 are 131,072 chains. Of the report's four points one is inside, and it is left.
-    let most = squares(rt.alloc(), 12)?;
+    let most = squares(rt.alloc(), 12, 0)?;
     let (status, text) = run(
         rt.alloc(),
         words,
@@ -158,9 +166,8 @@ fn there_may_be_so_many_chains_and_no_more(rt: HostRuntime) -> Result<(), Fail> 
         (status, text.as_str().lines().count()),
         (0, 5 + 3 * 131_072 + 3)
     );
-    // A loop of two points has three: 4 * 32,753 + 11 * 5 + 2 * 3 are one chain more.
-    let mut more = squares(rt.alloc(), 11)?;
-    more.push_str("-10,0 -6,0\n-10,0 -6,0\n")?;
+    // A triangle has four: 4 * 32,753 + 9 * 5 + 4 * 4 are one chain more.
+    let more = squares(rt.alloc(), 9, 4)?;
     let line = "input too many chains\n";
     expect(&rt, rt.alloc(), words, (more.as_str(), ""), (3, line))
 }

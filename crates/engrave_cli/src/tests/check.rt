@@ -1,5 +1,5 @@
 // `check`: the verdict on a G-code program, over a drawing.
-ghost use Rattle.std.specs.Prelude.{◌≤◌};
+ghost use Rattle.std.specs.Prelude.{◌≤◌, None};
 
 use super::{ANGLE, DOWN, LENIENT, NEVER, SQUARE, expect, run, shelf};
 use depth_rule::Scene;
@@ -9,7 +9,7 @@ use gouge_checker::Verdict;
 use grid_num::Units;
 use loops_text::read_loops;
 use plane_exact::Bit;
-use shop_port::MemDepot;
+use shop_port::{Depot, Failed, Fetch, MemDepot};
 use std::alloc::Global;
 use std::test::Fail;
 
@@ -74,9 +74,9 @@ fn check_names_the_first_move_that_gouges(rt: HostRuntime) -> Result<(), Fail> {
             "clear 2 moves\n",
             0,
         ),
-        // A loop of two points encloses nothing, and is an outline all the same.
+        // A tip that stands on an edge gouges it.
         (
-            "0,0 9,0",
+            "0,0 9,0 0,9",
             "G0 Z2\nG0 X0.05 Y0\nG1 Z-0.01",
             600,
             "line 3 gouge edge 0\n",
@@ -231,7 +231,21 @@ fn a_program_read_in_pieces_is_the_same_program(rt: HostRuntime) -> Result<(), F
     Ok(())
 }
 
-/// What the code is judged as over the L, read through a buffer of so many bytes, where the read of this number fails.
+/// What the stored code is judged as over the L, with a bit of 90 degrees, read through a buffer of so many bytes.
+fn judged_by<D: Depot>(
+    alloc: Global,
+    depot: &mut D,
+    room: usize,
+) -> Result<Result<(Verdict, u32), StreamFault>, Fail>
+    requires { 1 ≤ room }
+{
+    let scene = Scene::new(alloc, read_loops(alloc, ANGLE.as_bytes())?)?;
+    let bit = Bit::new(1, 1, 200).ok_or("bit")?;
+    let mut buffer = vec![in alloc; 0; room]?;
+    Ok(check_stream(&scene, &bit, Units::Mm100, depot, "c", &mut buffer))
+}
+
+/// The same of a code in memory, where the read of this number fails.
 fn judged(
     alloc: Global,
     code: &str,
@@ -240,19 +254,41 @@ fn judged(
 ) -> Result<Result<(Verdict, u32), StreamFault>, Fail>
     requires { 1 ≤ room }
 {
-    let scene = Scene::new(alloc, read_loops(alloc, ANGLE.as_bytes())?)?;
-    let bit = Bit::new(1, 1, 200).ok_or("bit")?;
     let mut depot = MemDepot::new(shelf(alloc, ANGLE, code)?, 65_536, [failing].to_vec(alloc)?);
-    let mut buffer = vec![in alloc; 0; room]?;
-    Ok(check_stream(&scene, &bit, Units::Mm100, &mut depot, "c", &mut buffer))
+    judged_by(alloc, &mut depot, room)
+}
+
+/// The fault of this kind in this line.
+fn code_fault(line: u32, kind: CodeKind) -> Result<(Verdict, u32), StreamFault> {
+    Err(StreamFault::Code(CodeFault { line, kind }))
 }
 
 #[test]
 fn the_buffer_may_have_any_room(rt: HostRuntime) -> Result<(), Fail> {
     for room in [1, 2, 3, 65_536] {
         assert!(rt; 1 <= room);
-        let answer = judged(rt.alloc(), LENIENT, room, NEVER)?;
-        assert_eq!(rt; answer, Ok((Verdict::Clear, 3)), "{room} bytes");
+        for (code, answer) in [
+            (LENIENT, Ok((Verdict::Clear, 3))),
+            (DOWN, Ok((Verdict::Clear, 2))),
+            (ROUND, Ok((Verdict::Gouge { line: 5, edge: 2 }, 2))),
+            (
+                "G0 Z2\nG0 X3 Y3\nG1 Z-0.1",
+                Ok((Verdict::Outside { line: 3 }, 1)),
+            ),
+            (
+                "G0 Z2\r\nG0 X1 Y3\r\nG1 Z-9\r\n",
+                Ok((Verdict::TooDeep { line: 3 }, 1)),
+            ),
+            ("Z-1", code_fault(1, CodeKind::Unplaced)),
+            ("G0 X1 X2", code_fault(1, CodeKind::Twice)),
+            ("G90\n\nG91", code_fault(3, CodeKind::Incremental)),
+            ("G20", code_fault(1, CodeKind::Units)),
+            ("(a", code_fault(1, CodeKind::OpenComment)),
+            ("", Ok((Verdict::Clear, 0))),
+        ] {
+            let judged = judged(rt.alloc(), code, room, NEVER)?;
+            assert_eq!(rt; judged, answer, "{code} by {room} bytes");
+        }
     }
     Ok(())
 }
@@ -261,24 +297,59 @@ fn the_buffer_may_have_any_room(rt: HostRuntime) -> Result<(), Fail> {
 fn a_failing_read_is_answered_whatever_came_before_it(rt: HostRuntime) -> Result<(), Fail> {
     // One read takes each of these codes whole, and a second one finds the file's end: behind a fault of the code, behind a move
     // that gouges, and behind the end word.
-    for (code, answer) in [
-        (
-            "G2",
-            Err(StreamFault::Code(CodeFault {
-                line: 1,
-                kind: CodeKind::Word,
-            })),
-        ),
-        (ROUND, Ok((Verdict::Gouge { line: 5, edge: 2 }, 2))),
-        (DOWN, Ok((Verdict::Clear, 2))),
-    ] {
-        let whole = judged(rt.alloc(), code, 65_536, NEVER)?;
-        assert_eq!(rt; whole, answer, "{code}");
+    for code in ["G2", ROUND, DOWN] {
         let cut = judged(rt.alloc(), code, 65_536, 2)?;
         assert_eq!(rt; cut, Err(StreamFault::ReadFault), "{code}");
     }
     // And where it comes in the middle of the line that has the fault.
     let cut = judged(rt.alloc(), "G2", 1, 2)?;
     assert_eq!(rt; cut, Err(StreamFault::ReadFault));
+    Ok(())
+}
+
+/// A file that begins with a text and goes on with blanks, of so many bytes in all.
+#[derive(Drop)]
+struct LongDepot {
+    front: &'static str,
+    length: u64,
+}
+
+impl Depot for LongDepot {
+    ghost held = { λ _. None };
+
+    ghost faults = { λ _. 0 };
+
+    ghost misses = { λ _. 0 };
+
+    fn read(&mut self, _name: &str, at: u64, into: &mut [u8]) -> Result<Fetch, Failed> {
+        let room = into.len() as u64;
+        into.fill(b' ');
+        if at == 0 {
+            for (place, byte) in into.iter_mut().zip(self.front.as_bytes()) {
+                *place = *byte;
+            }
+        }
+        Ok(Fetch::Got(room.min(self.length.saturating_sub(at)) as usize))
+    }
+}
+
+#[test]
+fn too_long_a_program_is_answered_whatever_came_before_its_end(
+    rt: HostRuntime,
+) -> Result<(), Fail> {
+    for (front, length, answer) in [
+        ("G2\n", 536_870_913, Err(StreamFault::TooLong)),
+        ("M2\n", 536_870_913, Err(StreamFault::TooLong)),
+        (ROUND, 536_870_913, Err(StreamFault::TooLong)),
+        (
+            ROUND,
+            536_870_912,
+            Ok((Verdict::Gouge { line: 5, edge: 2 }, 2)),
+        ),
+    ] {
+        let mut depot = LongDepot { front, length };
+        let judged = judged_by(rt.alloc(), &mut depot, 65_536)?;
+        assert_eq!(rt; judged, answer, "{front} in {length} bytes");
+    }
     Ok(())
 }

@@ -91,9 +91,9 @@ fn each_contact_is_printed_with_its_disc(rt: HostRuntime) -> Result<(), Fail> {
              1 6 0/1 right 10 11,36\n\
              1 6 1/1 right 14 18,14\n",
         ),
-        // Two plates that share a side: a disc on each side of it.
+        // Two plates side by side: a disc in each.
         (
-            "0,0 10,0 10,20 0,20\n10,0 30,0 30,20 10,20",
+            "0,0 10,0 10,20 0,20\n12,0 32,0 32,20 12,20",
             10,
             "0 0 0/1 none 0 0,0\n\
              0 0 1/1 none 0 10,0\n\
@@ -105,18 +105,18 @@ fn each_contact_is_printed_with_its_disc(rt: HostRuntime) -> Result<(), Fail> {
              0 3 0/2 none 0 0,20\n\
              0 3 1/2 left 5 5,10\n\
              0 3 2/2 none 0 0,0\n\
-             1 4 0/2 none 0 10,0\n\
-             1 4 1/2 left 10 20,10\n\
-             1 4 2/2 none 0 30,0\n\
-             1 5 0/2 none 0 30,0\n\
-             1 5 1/2 left 10 20,10\n\
-             1 5 2/2 none 0 30,20\n\
-             1 6 0/2 none 0 30,20\n\
-             1 6 1/2 left 10 20,10\n\
-             1 6 2/2 none 0 10,20\n\
-             1 7 0/2 none 0 10,20\n\
-             1 7 1/2 left 10 20,10\n\
-             1 7 2/2 none 0 10,0\n",
+             1 4 0/2 none 0 12,0\n\
+             1 4 1/2 left 10 22,10\n\
+             1 4 2/2 none 0 32,0\n\
+             1 5 0/2 none 0 32,0\n\
+             1 5 1/2 left 10 22,10\n\
+             1 5 2/2 none 0 32,20\n\
+             1 6 0/2 none 0 32,20\n\
+             1 6 1/2 left 10 22,10\n\
+             1 6 2/2 none 0 12,20\n\
+             1 7 0/2 none 0 12,20\n\
+             1 7 1/2 left 10 22,10\n\
+             1 7 2/2 none 0 12,0\n",
         ),
         // A trapezium whose slanted sides limit the disc.
         (
@@ -181,7 +181,7 @@ fn contacts_are_refused_in_their_order(rt: HostRuntime) -> Result<(), Fail> {
         ("contacts --drawing=d --step=7 --rmax=1", GREATEST, fine, 3),
         (
             "contacts --drawing=d --step=5 --rmax=1",
-            "0,0 9,9 9,0\n0,0 32767,32767 32767,32766 0,9",
+            "0,-9 9,-1 9,-9\n0,0 32767,32766 32767,32767 0,1",
             "input step too fine 3\n",
             3,
         ),
@@ -231,10 +231,14 @@ fn contacts_are_refused_in_their_order(rt: HostRuntime) -> Result<(), Fail> {
     ] {
         expect(&rt, rt.alloc(), words, (drawing, ""), (want, line))?;
     }
-    // 132 edges of 8192 pieces each.
+    // Squares around one another: 132 edges of 8128 to 8192 pieces each.
     let mut many = String::new(rt.alloc());
-    for _ in 0..33u32 {
-        many.push_str(GREATEST)?;
+    for number in 0..33i32 {
+        let (low, high) = (8 * number - 32_768, 32_767 - 8 * number);
+        let square = format!(in rt.alloc();
+            "{low},{low} {high},{low} {high},{high} {low},{high}\n"
+        )?;
+        many.push_str(square.as_str())?;
     }
     let words = "contacts --drawing=d --step=8 --rmax=1";
     let line = "input too many contacts\n";

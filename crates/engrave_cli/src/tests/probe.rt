@@ -82,7 +82,7 @@ fn worked_probes_give_their_text_and_status(rt: HostRuntime) -> Result<(), Fail>
         ),
         (FIRST, "0,0 32768,0 0,5", "input loops 4 out of range\n", 3),
         (FIRST, "5,5", "input loops 0 short\n", 3),
-        (FIRST, "0,0 1,0", "depth 0\n", 0),
+        (FIRST, "0,0 1,0", "input cross 0,1\n", 3),
         (FIRST, "", "depth 0\n", 0),
         (
             "probe --drawing=e --at=5,5 --bit=1/1 --rmax=600",

@@ -16,9 +16,10 @@ use Rattle.plane_exact.specs.Nodes.{GridNode}
 use Rattle.plane_exact.specs.Plane.{GridPoint}
 use Rattle.plane_exact.specs.Uncut.{UncutPoints}
 use Rattle.plane_exact.specs.declared.moves.LineMove.{LineMove}
-use Rattle.engrave_core.specs.Given.{IsGivenBy, Refuses}
-use Rattle.engrave_core.specs.Stored.{Files, stored_drawing}
-use Rattle.engrave_core.specs.Refusals.{IsRefusalOfPlan, IsRefusalOfReport, IsRefusalOfStoredDrawing, plan_refusal}
+use Rattle.engrave_core.specs.Drawing.{IsDrawingOf, IsGivenByDrawing, ReadDrawing}
+use Rattle.engrave_core.specs.Given.{Refuses}
+use Rattle.engrave_core.specs.Stored.{Files}
+use Rattle.engrave_core.specs.Refusals.{IsRefusalOfPlan, IsRefusalOfReport, IsRefusalOfDrawing, plan_refusal}
 use Rattle.engrave_core.specs.declared.outcome.InputFault.TheVariants.{TooMany}
 use Rattle.engrave_core.specs.declared.outcome.Kind.TheVariants.{Points}
 use Rattle.engrave_core.specs.declared.outcome.Outcome.{Outcome}
@@ -74,16 +75,17 @@ abbrev pub IsCarvedOrRefused : Job → (pitch : ℕ) → List (List GridPoint) �
 IsCarvedOrRefused job pitch loops outcome text =
     IsCarved job pitch loops outcome text ⊎ (IsRefusedPlan job loops outcome text ⊎ IsUnreported job pitch loops outcome text)
 
--- what is due for the stored drawing, or the refusal of it
+-- what is due for the drawing, or the refusal of it
 abbrev pub IsDueOfCarve : Files → DrawingWords → Job → (pitch : ℕ) → Outcome → List ℕ → Type 0
-IsDueOfCarve files shape job pitch outcome text = IsGivenBy (IsCarvedOrRefused job pitch) (stored_drawing files shape.drawing) outcome text
+IsDueOfCarve files shape job pitch outcome text =
+    IsGivenByDrawing (λ drawing. IsCarvedOrRefused job pitch drawing.loops) files shape outcome text
 
 -- the refusals of the drawing, of its plan and of the report
-abbrev pub IsRefusalOfCarve : Outcome → Type 0
-IsRefusalOfCarve outcome = IsRefusalOfStoredDrawing outcome ⊎ (IsRefusalOfPlan outcome ⊎ IsRefusalOfReport outcome)
+abbrev pub IsRefusalOfCarve : DrawingWords → Outcome → Type 0
+IsRefusalOfCarve shape outcome = IsRefusalOfDrawing shape outcome ⊎ (IsRefusalOfPlan outcome ⊎ IsRefusalOfReport outcome)
 
--- the named file stores a drawing, and the text is a good program for it
+-- the words name a drawing, and the text is a good program for it
 pub record StoresWellCarved (files : Files) (shape : DrawingWords) (job : Job) (pitch : ℕ) (text : List ℕ) : Type 0 where
-  pub loops : List (List GridPoint)
-  pub drawing_is : stored_drawing files shape.drawing ≡ Ok loops
-  pub good : IsGoodProgram job pitch loops text
+  pub drawing : ReadDrawing
+  pub is : IsDrawingOf files shape (Ok drawing)
+  pub good : IsGoodProgram job pitch drawing.loops text

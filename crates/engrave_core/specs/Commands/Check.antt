@@ -11,9 +11,10 @@ use Rattle.plane_exact.specs.Cone.{Cone}
 use Rattle.plane_exact.specs.Plane.{GridPoint}
 use Rattle.plane_exact.specs.declared.moves.LineMove.{LineMove}
 use Rattle.plane_exact.specs.declared.point.Seg.{Seg}
+use Rattle.engrave_core.specs.Drawing.{IsDrawingOf, IsGivenByDrawing, ReadDrawing}
 use Rattle.engrave_core.specs.Given.{IsGivenBy, Refuses}
-use Rattle.engrave_core.specs.Stored.{Files, stored_code, stored_drawing}
-use Rattle.engrave_core.specs.Refusals.{IsRefusalOfStoredCode, IsRefusalOfStoredDrawing}
+use Rattle.engrave_core.specs.Stored.{Files, stored_code}
+use Rattle.engrave_core.specs.Refusals.{IsRefusalOfStoredCode, IsRefusalOfDrawing}
 use Rattle.engrave_core.specs.declared.outcome.Outcome.{Outcome}
 use Rattle.engrave_core.specs.declared.outcome.Outcome.TheVariants.{Done, NotClear, Memory}
 use Rattle.engrave_core.specs.declared.refusal.Refusal.TheVariants as refusal
@@ -43,9 +44,9 @@ pub record IsChecked (bit : Cone) (loops : List (List GridPoint)) (moves : List 
 -- the drawing first, and then the G-code program
 abbrev pub IsDueOfCheck : Files → DrawingWords → List ℕ → Cone → Outcome → List ℕ → Type 0
 IsDueOfCheck files shape code bit outcome text =
-    IsGivenBy
-    (λ loops outcome text. IsGivenBy (IsChecked bit loops) (stored_code files shape.units code) outcome text)
-    (stored_drawing files shape.drawing) outcome text
+    IsGivenByDrawing
+    (λ drawing outcome text. IsGivenBy (IsChecked bit drawing.loops) (stored_code files shape.units code) outcome text)
+    files shape outcome text
 
 -- the refusals of the moves
 abbrev pub IsRefusalOfVerdict : Outcome → Type 0
@@ -54,16 +55,16 @@ IsRefusalOfVerdict Memory = Unit {0}
 IsRefusalOfVerdict other = ⊥
 
 -- the refusals of the drawing, of the G-code program and of the verdict
-abbrev pub IsRefusalOfCheck : Outcome → Type 0
-IsRefusalOfCheck outcome = IsRefusalOfStoredDrawing outcome ⊎ (IsRefusalOfStoredCode outcome ⊎ IsRefusalOfVerdict outcome)
+abbrev pub IsRefusalOfCheck : DrawingWords → Outcome → Type 0
+IsRefusalOfCheck shape outcome = IsRefusalOfDrawing shape outcome ⊎ (IsRefusalOfStoredCode outcome ⊎ IsRefusalOfVerdict outcome)
 
--- the named files store a drawing and a G-code program, of which this is so
+-- the words name a drawing and a stored G-code program, of which this is so
 pub record StoresCode (files : Files) (shape : DrawingWords) (code : List ℕ) (IsSo : List Seg → List LineMove → Type 0) : Type 0 where
-  pub loops : List (List GridPoint)
+  pub drawing : ReadDrawing
   pub moves : List LineMove
-  pub drawing_is : stored_drawing files shape.drawing ≡ Ok loops
+  pub drawing_is : IsDrawingOf files shape (Ok drawing)
   pub code_is : stored_code files shape.units code ≡ Ok moves
-  pub so : IsSo (edges_of loops) moves
+  pub so : IsSo (edges_of drawing.loops) moves
 
 -- no moment of any move removes a point outside the drawing
 abbrev pub StoresSafeCode : Files → DrawingWords → List ℕ → Cone → Type 0

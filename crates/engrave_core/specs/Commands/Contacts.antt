@@ -11,9 +11,10 @@ use Rattle.tangent_disc.specs.declared.contact.Contact.{Contact}
 use Rattle.tangent_disc.specs.declared.disc.Disc.{Disc}
 use Rattle.tangent_disc.specs.declared.disc.Side.{Side}
 use Rattle.tangent_disc.specs.declared.disc.Side.TheVariants.{Left, Right, Nowhere}
-use Rattle.engrave_core.specs.Given.{IsGivenBy, Refuses}
-use Rattle.engrave_core.specs.Stored.{Files, stored_drawing}
-use Rattle.engrave_core.specs.Refusals.{IsRefusalOfContacts, IsRefusalOfStoredDrawing}
+use Rattle.engrave_core.specs.Drawing.{IsGivenByDrawing}
+use Rattle.engrave_core.specs.Given.{Refuses}
+use Rattle.engrave_core.specs.Stored.{Files}
+use Rattle.engrave_core.specs.Refusals.{IsRefusalOfContacts, IsRefusalOfDrawing}
 use Rattle.engrave_core.specs.declared.outcome.InputFault.TheVariants.{StepTooFine, TooMany}
 use Rattle.engrave_core.specs.declared.outcome.Kind.TheVariants.{Contacts}
 use Rattle.engrave_core.specs.declared.outcome.Outcome.{Outcome}
@@ -78,10 +79,11 @@ abbrev pub IsTouchedOrRefused : (step rmax : ℕ) → List (List GridPoint) → 
 IsTouchedOrRefused step rmax loops outcome text =
     IsTouched step rmax loops outcome text ⊎ (IsRefusedTooFine step loops outcome text ⊎ IsRefusedTooMany step loops outcome text)
 
--- what is due for the stored drawing, or the refusal of it
+-- what is due for the drawing, or the refusal of it
 abbrev pub IsDueOfContacts : Files → DrawingWords → (step rmax : ℕ) → Outcome → List ℕ → Type 0
-IsDueOfContacts files shape step rmax outcome text = IsGivenBy (IsTouchedOrRefused step rmax) (stored_drawing files shape.drawing) outcome text
+IsDueOfContacts files shape step rmax outcome text =
+    IsGivenByDrawing (λ drawing. IsTouchedOrRefused step rmax drawing.loops) files shape outcome text
 
 -- the refusals of the drawing and of the step
-abbrev pub IsRefusalOfTouching : Outcome → Type 0
-IsRefusalOfTouching outcome = IsRefusalOfStoredDrawing outcome ⊎ IsRefusalOfContacts outcome
+abbrev pub IsRefusalOfTouching : DrawingWords → Outcome → Type 0
+IsRefusalOfTouching shape outcome = IsRefusalOfDrawing shape outcome ⊎ IsRefusalOfContacts outcome

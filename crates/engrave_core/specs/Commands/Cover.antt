@@ -7,9 +7,10 @@ use Rattle.plane_exact.specs.Cone.{Cone}
 use Rattle.plane_exact.specs.Plane.{GridPoint}
 use Rattle.plane_exact.specs.Uncut.{UncutPoints}
 use Rattle.plane_exact.specs.declared.moves.LineMove.{LineMove}
+use Rattle.engrave_core.specs.Drawing.{IsDrawingOf, IsGivenByDrawing, ReadDrawing}
 use Rattle.engrave_core.specs.Given.{IsGivenBy, Refuses}
-use Rattle.engrave_core.specs.Stored.{Files, stored_code, stored_drawing}
-use Rattle.engrave_core.specs.Refusals.{IsRefusalOfReport, IsRefusalOfStoredCode, IsRefusalOfStoredDrawing}
+use Rattle.engrave_core.specs.Stored.{Files, stored_code}
+use Rattle.engrave_core.specs.Refusals.{IsRefusalOfReport, IsRefusalOfStoredCode, IsRefusalOfDrawing}
 use Rattle.engrave_core.specs.declared.outcome.InputFault.TheVariants.{TooMany}
 use Rattle.engrave_core.specs.declared.outcome.Kind.TheVariants.{Points}
 use Rattle.engrave_core.specs.declared.outcome.Outcome.{Outcome}
@@ -43,18 +44,18 @@ IsCoveredOrRefused bit pitch loops moves outcome text = IsCovered bit pitch loop
 -- the drawing first, and then the G-code program
 abbrev pub IsDueOfCover : Files → DrawingWords → List ℕ → Cone → (pitch : ℕ) → Outcome → List ℕ → Type 0
 IsDueOfCover files shape code bit pitch outcome text =
-    IsGivenBy
-    (λ loops outcome text. IsGivenBy (IsCoveredOrRefused bit pitch loops) (stored_code files shape.units code) outcome text)
-    (stored_drawing files shape.drawing) outcome text
+    IsGivenByDrawing
+    (λ drawing outcome text. IsGivenBy (IsCoveredOrRefused bit pitch drawing.loops) (stored_code files shape.units code) outcome text)
+    files shape outcome text
 
 -- the refusals of the drawing, of the G-code program and of the report
-abbrev pub IsRefusalOfCover : Outcome → Type 0
-IsRefusalOfCover outcome = IsRefusalOfStoredDrawing outcome ⊎ (IsRefusalOfStoredCode outcome ⊎ IsRefusalOfReport outcome)
+abbrev pub IsRefusalOfCover : DrawingWords → Outcome → Type 0
+IsRefusalOfCover shape outcome = IsRefusalOfDrawing shape outcome ⊎ (IsRefusalOfStoredCode outcome ⊎ IsRefusalOfReport outcome)
 
--- the named files store a drawing and a G-code program, and the text is the report on its moves
+-- the words name a drawing and a stored G-code program, and the text is the report on its moves
 pub record StoresCovered (files : Files) (shape : DrawingWords) (code : List ℕ) (bit : Cone) (pitch : ℕ) (text : List ℕ) : Type 0 where
-  pub loops : List (List GridPoint)
+  pub drawing : ReadDrawing
   pub moves : List LineMove
-  pub drawing_is : stored_drawing files shape.drawing ≡ Ok loops
+  pub drawing_is : IsDrawingOf files shape (Ok drawing)
   pub code_is : stored_code files shape.units code ≡ Ok moves
-  pub told : IsTold bit pitch loops moves text
+  pub told : IsTold bit pitch drawing.loops moves text

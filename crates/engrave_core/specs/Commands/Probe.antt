@@ -5,9 +5,9 @@ use Rattle.engrave_model.specs.Drawing.{edges_of}
 use Rattle.job_words.specs.declared.request.DrawingWords.{DrawingWords}
 use Rattle.plane_exact.specs.Cone.{Cone}
 use Rattle.plane_exact.specs.Plane.{GridPoint}
-use Rattle.engrave_core.specs.Given.{IsGivenBy}
-use Rattle.engrave_core.specs.Stored.{Files, stored_drawing}
-use Rattle.engrave_core.specs.Refusals.{IsRefusalOfStoredDrawing}
+use Rattle.engrave_core.specs.Drawing.{IsGivenByDrawing}
+use Rattle.engrave_core.specs.Refusals.{IsRefusalOfDrawing}
+use Rattle.engrave_core.specs.Stored.{Files}
 use Rattle.engrave_core.specs.declared.outcome.Outcome.{Outcome}
 use Rattle.engrave_core.specs.declared.outcome.Outcome.TheVariants.{Done}
 
@@ -22,11 +22,11 @@ pub record IsProbed (at : GridPoint) (bit : Cone) (limit : ℕ) (loops : List (L
   pub done : outcome ≡ Done
   pub depth : IsProbeText at bit limit loops text
 
--- the greatest depth at the point of the stored drawing, or the refusal of it
+-- the greatest depth at the point of the drawing, or the refusal of it
 abbrev pub IsDueOfProbe : Files → DrawingWords → GridPoint → Cone → ℕ → Outcome → List ℕ → Type 0
 IsDueOfProbe files shape at bit limit outcome text =
-    IsGivenBy (IsProbed at bit limit) (stored_drawing files shape.drawing) outcome text
+    IsGivenByDrawing (λ drawing. IsProbed at bit limit drawing.loops) files shape outcome text
 
 -- the refusals of the drawing
-abbrev pub IsRefusalOfProbe : Outcome → Type 0
-IsRefusalOfProbe outcome = IsRefusalOfStoredDrawing outcome
+abbrev pub IsRefusalOfProbe : DrawingWords → Outcome → Type 0
+IsRefusalOfProbe shape outcome = IsRefusalOfDrawing shape outcome

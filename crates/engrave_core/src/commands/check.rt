@@ -1,6 +1,7 @@
 // `check`: the verdict on a G-code program, over a drawing. The program is judged as it comes, and never stored.
 ghost use Rattle.std.specs.Prelude.{◌≡◌, ◌≤◌, length, IfOk, IfErr, string_bytes};
 ghost use Rattle.engrave_model.specs.Drawing.{edges_of};
+ghost use Rattle.job_words.specs.Shape.{IsShapeInRange};
 ghost use Rattle.engrave_core.specs.Commands.Check.{IsDueOfCheck, IsRefusalOfCheck, IsRefusalOfVerdict, IsReportOf, clear_line};
 ghost use Rattle.engrave_core.specs.Given.{IsReported};
 ghost use Rattle.engrave_core.specs.Refusals.{IsRefusalOfStoredCode};
@@ -8,7 +9,7 @@ ghost use Rattle.engrave_core.specs.Stored.{AnswersFrom, stored_code};
 ghost use Rattle.engrave_core.specs.Streamed.{IsJudgedAs};
 ghost use Rattle.engrave_core.specs.Outcome.{outcome_of};
 
-use crate::files::load_drawing;
+use crate::drawing::load_drawing;
 use crate::refusal::Refusal;
 use crate::stream::check_stream;
 use depth_rule::Scene;
@@ -30,16 +31,23 @@ pub fn run<D: Depot>(
     bit: &Bit,
     depot: &mut D,
 ) -> Result<Vec<u8>, Refusal>
+    requires { IsShapeInRange shape.now }
     ensures value { AnswersFrom D.held D.faults D.misses depot.old depot.new
         (λ files. IsReported (IsDueOfCheck files shape.now code.now bit.now)) result }
-    ensures refusal { IfErr result (λ refusal. IsRefusalOfCheck (outcome_of refusal)) }
+    ensures refusal { IfErr result (λ refusal. IsRefusalOfCheck shape.now (outcome_of refusal)) }
 {
-    let drawing = load_drawing(alloc, shape.drawing.as_str(), depot)?;
-    let scene = Scene::new(alloc, drawing)?;
+    let loaded = load_drawing(alloc, shape, depot)?;
     let mut buffer = zeros(alloc)?;
     // That the bit has some width is known from its slope.
     let _slope = bit.sn();
-    let (verdict, count) = judge_code(&scene, bit, shape.units, code.as_str(), depot, &mut buffer)?;
+    let (verdict, count) = judge_code(
+        &loaded.scene,
+        bit,
+        shape.units,
+        code.as_str(),
+        depot,
+        &mut buffer,
+    )?;
     verdict_text(alloc, verdict, count)
 }
 

@@ -3,18 +3,18 @@ ghost use Rattle.std.specs.Prelude.{◌≡◌, ◌≤◌, ◌++◌, IfOk, IfErr,
 ghost use Rattle.plane_exact.specs.Cone.{IsFromOneTo};
 ghost use Rattle.tangent_disc.specs.Contacts.{IsContactOf};
 ghost use Rattle.tangent_disc.specs.Tangent.{IsTangentOf};
+ghost use Rattle.job_words.specs.Shape.{IsShapeInRange};
 ghost use Rattle.engrave_core.specs.Commands.Contacts.{AreContactLines, IsDueOfContacts, IsRefusalOfTouching, IsTouchedOrRefused, contact_text, disc_text, number_before, point_text, side_text};
 ghost use Rattle.engrave_core.specs.Refusals.{IsRefusalOfContacts};
 ghost use Rattle.engrave_core.specs.Given.{IsReported};
 ghost use Rattle.engrave_core.specs.Stored.{AnswersFrom};
 ghost use Rattle.engrave_core.specs.Outcome.{outcome_of};
 
-use crate::files::load_drawing;
+use crate::drawing::load_drawing;
 use crate::refusal::Refusal;
 use depth_rule::Scene;
 use grid_num::write_decimal;
 use job_words::DrawingWords;
-use loops_text::Drawing;
 use plane_exact::Point;
 use shop_port::Depot;
 use std::alloc::{AllocError, Global};
@@ -28,26 +28,26 @@ pub fn run<D: Depot>(
     rmax: u32,
     depot: &mut D,
 ) -> Result<Vec<u8>, Refusal>
+    requires shape { IsShapeInRange shape.now }
     requires step { IsFromOneTo 32767 step }
     requires rmax { IsFromOneTo 8191 rmax }
     ensures value { AnswersFrom D.held D.faults D.misses depot.old depot.new
         (λ files. IsReported (IsDueOfContacts files shape.now step rmax)) result }
-    ensures refusal { IfErr result (λ refusal. IsRefusalOfTouching (outcome_of refusal)) }
+    ensures refusal { IfErr result (λ refusal. IsRefusalOfTouching shape.now (outcome_of refusal)) }
 {
-    let drawing = load_drawing(alloc, shape.drawing.as_str(), depot)?;
-    contacts_text(alloc, drawing, step, rmax)
+    let loaded = load_drawing(alloc, shape, depot)?;
+    contacts_text(alloc, &loaded.scene, step, rmax)
 }
 
 /// The lines of the drawing's contacts, or the refusal of the step.
-fn contacts_text(alloc: Global, drawing: Drawing, step: u32, rmax: u32) -> Result<Vec<u8>, Refusal>
+fn contacts_text(alloc: Global, scene: &Scene, step: u32, rmax: u32) -> Result<Vec<u8>, Refusal>
     requires step { IsFromOneTo 32767 step }
     requires rmax { IsFromOneTo 8191 rmax }
-    ensures value { IsReported (IsTouchedOrRefused step rmax drawing) result }
+    ensures value { IsReported (IsTouchedOrRefused step rmax scene.now) result }
     ensures refusal { IfErr result (λ refusal. IsRefusalOfContacts (outcome_of refusal)) }
 {
-    let contacts = contacts(alloc, &drawing, step)?;
-    let scene = Scene::new(alloc, drawing)?;
-    Ok(lines_of(alloc, &scene, &contacts, rmax)?)
+    let contacts = contacts(alloc, scene.drawing(), step)?;
+    Ok(lines_of(alloc, scene, &contacts, rmax)?)
 }
 
 fn lines_of(

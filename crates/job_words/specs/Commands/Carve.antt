@@ -3,7 +3,7 @@ use Rattle.std.specs.Prelude.{ℕ, Option, Some, None, List, [], ◌∷◌, code
 use Rattle.plane_exact.specs.Cone.{IsCone, IsFromOneTo}
 use Rattle.job_words.specs.Options.{OptionRow}
 use Rattle.job_words.specs.Command.{Command, needed, optional}
-use Rattle.job_words.specs.Shape.{shape_of}
+use Rattle.job_words.specs.Shape.{shape_of, shape_options}
 use Rattle.job_words.specs.Values.{bit_of, feed_of, limit_of, pitch_of, rmax_of, safe_of, step_of}
 use Rattle.job_words.specs.declared.request.DrawingWords.{DrawingWords}
 use Rattle.job_words.specs.declared.request.Request.{Request}
@@ -24,7 +24,7 @@ carve_request value =
 unfoldable pub carve_options : List OptionRow
 carve_options =
     needed (codes "bit") ∷ needed (codes "rmax") ∷ needed (codes "step") ∷ optional (codes "limit") ∷ optional (codes "safe") ∷ optional (codes "feed")
-    ∷ optional (codes "pitch") ∷ needed (codes "drawing") ∷ optional (codes "form") ∷ optional (codes "units") ∷ []
+    ∷ optional (codes "pitch") ∷ shape_options
 
 -- the command
 abbrev pub carve : Command

@@ -2,7 +2,7 @@
 use Rattle.std.specs.Prelude.{ℕ, Option, Some, None, List, [], ◌∷◌, codes}
 use Rattle.job_words.specs.Options.{OptionRow}
 use Rattle.job_words.specs.Command.{Command, needed, optional}
-use Rattle.job_words.specs.Shape.{shape_of}
+use Rattle.job_words.specs.Shape.{shape_of, shape_options}
 use Rattle.job_words.specs.Values.{bit_of, rmax_of}
 use Rattle.job_words.specs.declared.request.DrawingWords.{DrawingWords}
 use Rattle.job_words.specs.declared.request.Request.{Request}
@@ -21,8 +21,7 @@ check_request value =
 -- its options
 unfoldable pub check_options : List OptionRow
 check_options =
-    needed (codes "bit") ∷ needed (codes "rmax") ∷ needed (codes "drawing") ∷ optional (codes "form")
-    ∷ optional (codes "units") ∷ needed (codes "code") ∷ []
+    needed (codes "bit") ∷ needed (codes "rmax") ∷ needed (codes "code") ∷ shape_options
 
 -- the command
 abbrev pub check : Command

@@ -3,7 +3,7 @@ use Rattle.std.specs.Prelude.{ℕ, Option, Some, None, List, [], ◌∷◌, code
 use Rattle.plane_exact.specs.Cone.{IsFromOneTo}
 use Rattle.job_words.specs.Options.{OptionRow}
 use Rattle.job_words.specs.Command.{Command, needed, optional}
-use Rattle.job_words.specs.Shape.{shape_of}
+use Rattle.job_words.specs.Shape.{shape_of, shape_options}
 use Rattle.job_words.specs.Values.{rmax_of, step_of}
 use Rattle.job_words.specs.declared.request.DrawingWords.{DrawingWords}
 use Rattle.job_words.specs.declared.request.Request.{Request}
@@ -21,7 +21,7 @@ contacts_request value = contacts_by (step_of (value (codes "step"))) (rmax_of (
 -- its options
 unfoldable pub contacts_options : List OptionRow
 contacts_options =
-    needed (codes "step") ∷ needed (codes "rmax") ∷ needed (codes "drawing") ∷ optional (codes "form") ∷ optional (codes "units") ∷ []
+    needed (codes "step") ∷ needed (codes "rmax") ∷ shape_options
 
 -- the command
 abbrev pub contacts : Command

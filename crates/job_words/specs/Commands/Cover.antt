@@ -3,7 +3,7 @@ use Rattle.std.specs.Prelude.{ℕ, Option, Some, None, List, [], ◌∷◌, code
 use Rattle.plane_exact.specs.Cone.{IsCone, IsFromOneTo}
 use Rattle.job_words.specs.Options.{OptionRow}
 use Rattle.job_words.specs.Command.{Command, needed, optional}
-use Rattle.job_words.specs.Shape.{shape_of}
+use Rattle.job_words.specs.Shape.{shape_of, shape_options}
 use Rattle.job_words.specs.Values.{bit_of, pitch_of, rmax_of}
 use Rattle.job_words.specs.declared.request.DrawingWords.{DrawingWords}
 use Rattle.job_words.specs.declared.request.Request.{Request}
@@ -23,8 +23,7 @@ cover_request value =
 -- its options
 unfoldable pub cover_options : List OptionRow
 cover_options =
-    needed (codes "bit") ∷ needed (codes "rmax") ∷ optional (codes "pitch") ∷ needed (codes "drawing") ∷ optional (codes "form")
-    ∷ optional (codes "units") ∷ needed (codes "code") ∷ []
+    needed (codes "bit") ∷ needed (codes "rmax") ∷ optional (codes "pitch") ∷ needed (codes "code") ∷ shape_options
 
 -- the command
 abbrev pub cover : Command

@@ -4,7 +4,7 @@ use Rattle.plane_exact.specs.Cone.{IsCone, IsFromOneTo}
 use Rattle.plane_exact.specs.Plane.{GridPoint}
 use Rattle.job_words.specs.Options.{OptionRow}
 use Rattle.job_words.specs.Command.{Command, needed, optional}
-use Rattle.job_words.specs.Shape.{shape_of}
+use Rattle.job_words.specs.Shape.{shape_of, shape_options}
 use Rattle.job_words.specs.Values.{at_of, bit_of, rmax_of, limit_of}
 use Rattle.job_words.specs.declared.request.DrawingWords.{DrawingWords}
 use Rattle.job_words.specs.declared.request.Request.{Request}
@@ -24,8 +24,7 @@ probe_request value =
 -- its options
 unfoldable pub probe_options : List OptionRow
 probe_options =
-    needed (codes "at") ∷ needed (codes "bit") ∷ needed (codes "rmax") ∷ optional (codes "limit")
-    ∷ needed (codes "drawing") ∷ optional (codes "form") ∷ optional (codes "units") ∷ []
+    needed (codes "at") ∷ needed (codes "bit") ∷ needed (codes "rmax") ∷ optional (codes "limit") ∷ shape_options
 
 -- the command
 abbrev pub probe : Command

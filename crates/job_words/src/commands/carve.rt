@@ -1,29 +1,29 @@
 // `carve`: the G-code program that carves a drawing.
-ghost use Rattle.std.specs.Prelude.{◌≡◌, IfOk, Some, None, Err, map, string_bytes};
+ghost use Rattle.std.specs.Prelude.{◌≡◌, ◌++◌, IfOk, Some, None, Err, map, string_bytes};
 ghost use Rattle.clap.specs.Words.{first_value, found_of};
 ghost use Rattle.job_words.specs.Commands.Carve.{carve, carve_options, carve_request};
 ghost use Rattle.job_words.specs.Options.{row_of};
+ghost use Rattle.job_words.specs.Shape.{shape_options};
 ghost use Rattle.job_words.specs.Request.{IsInRange, command_request};
 
 use crate::fault::WordsFault;
 use crate::found::{
-    BIT, DRAWING, FEED, FORM, LIMIT, PITCH, RMAX, SAFE, STEP, UNITS, bit_in, feed_in, limit_in,
-    pitch_in, rmax_in, safe_in, shape_in, step_in,
+    BIT, FEED, LIMIT, PITCH, RMAX, SAFE, STEP, bit_in, feed_in, limit_in, pitch_in, rmax_in,
+    safe_in, step_in,
 };
 use crate::options::{CommandOption, match_words};
 use crate::request::Request;
+use crate::shape::{of_drawing, shape_in};
 use clap::ArgMatches;
 use std::alloc::Global;
 
-static OPTIONS: [CommandOption; 10] = [
-    BIT, RMAX, STEP, LIMIT, SAFE, FEED, PITCH, DRAWING, FORM, UNITS,
-];
+static OWN: [CommandOption; 7] = [BIT, RMAX, STEP, LIMIT, SAFE, FEED, PITCH];
 
 #[tactic(auto, unfolding(crate::specs::Commands::Carve::carve_options))]
-fn options() -> &'static [CommandOption]
-    ensures { map row_of result.now ≡ carve_options }
+fn own() -> &'static [CommandOption]
+    ensures { map row_of result.now ++ shape_options ≡ carve_options }
 {
-    &OPTIONS
+    &OWN
 }
 
 /// What the words, of which the first is the command's name, ask for.
@@ -33,7 +33,7 @@ pub fn read(alloc: Global, words: &[String]) -> Result<Request, WordsFault>
     ensures range { IfOk result IsInRange }
     ensures usage { result ≡ Err WordsFault.Usage → command_request carve (map string_bytes words.now) ≡ None }
 {
-    let found = match_words(alloc, options(), words)?;
+    let found = match_words(alloc, own(), of_drawing(), words)?;
     read_values(alloc, &found)
 }
 

@@ -1,24 +1,26 @@
 // `check`: whether a G-code program stays within a drawing.
-ghost use Rattle.std.specs.Prelude.{◌≡◌, IfOk, Some, None, Err, map, string_bytes};
+ghost use Rattle.std.specs.Prelude.{◌≡◌, ◌++◌, IfOk, Some, None, Err, map, string_bytes};
 ghost use Rattle.clap.specs.Words.{first_value, found_of};
 ghost use Rattle.job_words.specs.Commands.Check.{check, check_options, check_request};
 ghost use Rattle.job_words.specs.Options.{row_of};
+ghost use Rattle.job_words.specs.Shape.{shape_options};
 ghost use Rattle.job_words.specs.Request.{IsInRange, command_request};
 
 use crate::fault::WordsFault;
-use crate::found::{BIT, CODE, DRAWING, FORM, RMAX, UNITS, bit_in, rmax_in, shape_in, text_in};
+use crate::found::{BIT, CODE, RMAX, bit_in, rmax_in, text_in};
 use crate::options::{CommandOption, match_words};
 use crate::request::Request;
+use crate::shape::{of_drawing, shape_in};
 use clap::ArgMatches;
 use std::alloc::Global;
 
-static OPTIONS: [CommandOption; 6] = [BIT, RMAX, DRAWING, FORM, UNITS, CODE];
+static OWN: [CommandOption; 3] = [BIT, RMAX, CODE];
 
 #[tactic(auto, unfolding(crate::specs::Commands::Check::check_options))]
-fn options() -> &'static [CommandOption]
-    ensures { map row_of result.now ≡ check_options }
+fn own() -> &'static [CommandOption]
+    ensures { map row_of result.now ++ shape_options ≡ check_options }
 {
-    &OPTIONS
+    &OWN
 }
 
 /// What the words, of which the first is the command's name, ask for.
@@ -28,7 +30,7 @@ pub fn read(alloc: Global, words: &[String]) -> Result<Request, WordsFault>
     ensures range { IfOk result IsInRange }
     ensures usage { result ≡ Err WordsFault.Usage → command_request check (map string_bytes words.now) ≡ None }
 {
-    let found = match_words(alloc, options(), words)?;
+    let found = match_words(alloc, own(), of_drawing(), words)?;
     read_values(alloc, &found)
 }
 

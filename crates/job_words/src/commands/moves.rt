@@ -28,7 +28,7 @@ pub fn read(alloc: Global, words: &[String]) -> Result<Request, WordsFault>
     ensures range { IfOk result IsInRange }
     ensures usage { result ≡ Err WordsFault.Usage → command_request moves (map string_bytes words.now) ≡ None }
 {
-    let found = match_words(alloc, options(), words)?;
+    let found = match_words(alloc, options(), &[], words)?;
     read_values(alloc, &found)
 }
 

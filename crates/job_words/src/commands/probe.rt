@@ -1,26 +1,26 @@
 // `probe`: the greatest depth at one point of a drawing.
-ghost use Rattle.std.specs.Prelude.{◌≡◌, IfOk, Some, None, Err, map, string_bytes};
+ghost use Rattle.std.specs.Prelude.{◌≡◌, ◌++◌, IfOk, Some, None, Err, map, string_bytes};
 ghost use Rattle.clap.specs.Words.{first_value, found_of};
 ghost use Rattle.job_words.specs.Commands.Probe.{probe, probe_options, probe_request};
 ghost use Rattle.job_words.specs.Options.{row_of};
+ghost use Rattle.job_words.specs.Shape.{shape_options};
 ghost use Rattle.job_words.specs.Request.{IsInRange, command_request};
 
 use crate::fault::WordsFault;
-use crate::found::{
-    AT, BIT, DRAWING, FORM, LIMIT, RMAX, UNITS, at_in, bit_in, limit_in, rmax_in, shape_in,
-};
+use crate::found::{AT, BIT, LIMIT, RMAX, at_in, bit_in, limit_in, rmax_in};
 use crate::options::{CommandOption, match_words};
 use crate::request::Request;
+use crate::shape::{of_drawing, shape_in};
 use clap::ArgMatches;
 use std::alloc::Global;
 
-static OPTIONS: [CommandOption; 7] = [AT, BIT, RMAX, LIMIT, DRAWING, FORM, UNITS];
+static OWN: [CommandOption; 4] = [AT, BIT, RMAX, LIMIT];
 
 #[tactic(auto, unfolding(crate::specs::Commands::Probe::probe_options))]
-fn options() -> &'static [CommandOption]
-    ensures { map row_of result.now ≡ probe_options }
+fn own() -> &'static [CommandOption]
+    ensures { map row_of result.now ++ shape_options ≡ probe_options }
 {
-    &OPTIONS
+    &OWN
 }
 
 /// What the words, of which the first is the command's name, ask for.
@@ -30,7 +30,7 @@ pub fn read(alloc: Global, words: &[String]) -> Result<Request, WordsFault>
     ensures range { IfOk result IsInRange }
     ensures usage { result ≡ Err WordsFault.Usage → command_request probe (map string_bytes words.now) ≡ None }
 {
-    let found = match_words(alloc, options(), words)?;
+    let found = match_words(alloc, own(), of_drawing(), words)?;
     read_values(alloc, &found)
 }
 

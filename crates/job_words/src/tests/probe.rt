@@ -115,7 +115,7 @@ static MORE_WORDS: [(&str, &str); 26] = [
     ("--limit=", ""),
     ("--limit", ""),
     ("--form=loops", "Mm100 5,500 1/2 100 32767"),
-    ("--form=dxf", ""),
+    ("--form=svg", ""),
     ("--form=", ""),
     ("--units=mm10", "Mm10 5,500 1/2 100 32767"),
     ("--limit=1 --limit=1", ""),

@@ -6,5 +6,5 @@ use Rattle.engrave_core.proofs.commands.contacts.contacts_text.Goals as goal
 
 pub lines_of-requires-clause-contacts : goal.lines_of-requires-clause-contacts
 lines_of-requires-clause-contacts c =
-    subst (All (IsContactOf c.in_ok-scene.scene)) (sym c.deref.ensures.value)
-    (subst (λ loops. All (IsContactOf loops) c.in_ok-contacts.contacts.items) (sym c.in_ok-scene.ensures) c.in_ok-contacts.ensures.each)
+    subst (All (IsContactOf c.args.scene.now)) (sym c.deref.ensures.value)
+    (subst (λ loops. All (IsContactOf loops) c.in_ok-contacts.contacts.items) c.drawing.ensures c.in_ok-contacts.ensures.each)
