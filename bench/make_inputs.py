@@ -66,6 +66,38 @@ def squares(rows):
     return [[(x + dx, y + dy) for dx, dy in corners] for y in range(0, 200 * rows, 200) for x in range(0, 200 * rows, 200)]
 
 
+def loose_sides(rows):
+    """The sides of squares in 256 columns and so many rows, in any order and direction."""
+    generator, sides = random.Random(SEED), []
+    corners = ((0, 0), (100, 0), (100, 100), (0, 100))
+    for x, y in itertools.product(range(-32_000, 32_000, 250), range(-16_000, -16_000 + 250 * rows, 250)):
+        points = [(x + dx, y + dy) for dx, dy in corners]
+        sides += [generator.choice([(p, q), (q, p)]) for p, q in zip(points, points[1:] + points[:1])]
+    generator.shuffle(sides)
+    return sides
+
+
+def write_lines(path, sides, padded):
+    """A DXF file of LINEs, each of some 126 bytes where they are padded."""
+    layer = "8\nOUTLINES OF THE PLATE AND OF ALL ITS HOLES AND EDGES\n62\n7\n" if padded else ""
+    length, height = ("{:.5f}", "30\n0.0\n") if padded else ("{:.2f}", "")
+    with open(path, "w") as file:
+        file.write("0\nSECTION\n2\nENTITIES\n")
+        for (x, y), (v, w) in sides:
+            x, y, v, w = (length.format(z / 100) for z in (x, y, v, w))
+            file.write(f"0\nLINE\n{layer}10\n{x}\n20\n{y}\n{height}11\n{v}\n21\n{w}\n")
+        file.write("0\nENDSEC\n0\nEOF\n")
+
+
+def write_bitmap(path, side):
+    """A packed bitmap of so many pixels to each side, with black squares of 32 by 32 pixels at every 64th place."""
+    width = (side + 7) // 8
+    dotted = bytes(255 if i % 8 < 4 else 0 for i in range(width))
+    with open(path, "wb") as file:
+        file.write(b"P4\n%d %d\n" % (side, side))
+        file.writelines(dotted if y % 64 < 32 else bytes(width) for y in range(side))
+
+
 def oval(width, height, pieces):
     angles = (2 * math.pi * i / pieces for i in range(pieces))
     return [(width * math.cos(angle), height * math.sin(angle)) for angle in angles]

@@ -1,7 +1,7 @@
 #!/usr/bin/env python3
 """Measures the built program beside plain Rust and wc, and prints the table of docs/PERFORMANCE.md. It builds nothing.
 
-usage: measure.py [--program PATH] [--yardstick PATH] [--repeat N] [--sizes N]
+usage: measure.py [--program PATH] [--yardstick PATH] [--repeat N] [--sizes N] [--only TEXT]
 
 It ends with 2 where a program that it runs isn't built, and with 1 where a run doesn't end with the answer that it has to
 give, so that no refusal is measured.
@@ -39,6 +39,8 @@ MOVES_SIZES = (10_000, 100_000, 1_000_000)
 RING_SIZES = (1_000, 10_000, 100_000)
 SQUARE_ROWS = (32, 64, 128)
 MANY_MOVES = 100_000
+# A small drawing, for a million moves; and how many rows of 256 squares there are, for 16,384 and 131,072 loose sides.
+SMALL_RING, SQUARES_ROWS = 100, (16, 128)
 
 # A bit so slim that the greatest depth is asked for most often, over a place so far from the outline that no edge is near.
 PROBE_BIT, PROBE_RMAX, PROBE_ANSWER = "1/4", "8191", "depth 32764"
@@ -282,6 +284,28 @@ def cover_case(folder, pitch):
     return Case(text, points, points * COVERED_MOVES, (drawing, code), words, "uncut ", plain, 0)
 
 
+def million_case(folder):
+    return check_case(folder, RING_SHORT, MOVES_SIZES[-1], ring_file(folder, SMALL_RING), SMALL_RING, MOVES_SIZES[-1])
+
+
+def flat_case(form, path, text, size, options=()):
+    words = ("flatten", f"--drawing={path}", f"--form={form}", *options)
+    return Case(text, size, 0, (str(path),), words, "", ("flatten", form, str(path)))
+
+
+def lines_case(folder, rows, padded):
+    path = folder / f"lines{rows}{padded}.dxf"
+    if not path.exists():
+        make_inputs.write_lines(path, make_inputs.loose_sides(rows), padded)
+    return flat_case("dxf", path, f"{1024 * rows:,} segments", 1024 * rows)
+
+
+def bitmap_case(folder, side):
+    path = folder / f"bitmap{side}.pbm"
+    make_inputs.write_bitmap(path, side)
+    return flat_case("pbm", path, f"{side:,} x {side:,} pixels", side * side, ("--pixel=1",))
+
+
 def squares_case(folder, rows):
     squares = make_inputs.squares(rows)
     return contacts_case(drawing_file(folder, f"squares{rows}", lambda: squares), squares, SQUARES_STEP, SQUARES_RMAX)
@@ -304,6 +328,10 @@ def series(folder, count):
     yield "`check`, field, short moves", (field_case(folder, FIELD_SHORT, stride) for stride in strides)
     yield "`check`, field, long moves", (field_case(folder, FIELD_LONG, stride) for stride in strides)
     yield "`check`, field, many moves", (many_case(folder, moves) for moves in MOVES_SIZES[:count])
+    yield "`check`, small drawing", (million_case(folder) for _ in range(count // 3))
+    yield "`flatten`, DXF, lines", (lines_case(folder, rows, False) for rows in SQUARES_ROWS[:count])
+    yield "`flatten`, DXF, long lines", (lines_case(folder, SQUARES_ROWS[-1], True) for _ in range(count // 3))
+    yield "`flatten`, bitmap", (bitmap_case(folder, side) for side in (2_047, 8_191)[:count])
     for rmax in PLATE_RMAX:
         yield f"`contacts`, name plate, `--rmax={rmax}`", (plate_case(folder, rmax) for _ in range(1))
     yield "`contacts`, squares", (squares_case(folder, rows) for rows in SQUARE_ROWS[:count])
@@ -375,6 +403,8 @@ def measure_all(options):
         bench = Bench(options, Path(name))
         print_head(bench)
         for command, cases in series(bench.folder, bench.sizes):
+            if options.only not in command:
+                continue
             before = None
             for case in cases:
                 before = row(bench, command, case, before)
@@ -394,6 +424,7 @@ def main():
     parser.add_argument("--yardstick", type=Path, default=OUT / "yardstick", help="the yardstick, built")
     parser.add_argument("--repeat", type=int, default=5, help="how often each thing is run")
     parser.add_argument("--sizes", type=int, default=3, choices=(1, 2, 3), help="how many of the three sizes are run")
+    parser.add_argument("--only", default="", help="only the lines whose command has this text")
     options = parser.parse_args()
     require(options.program, "the program", BUILD_PROGRAM)
     require(options.yardstick, "the yardstick", BUILD_YARDSTICK)

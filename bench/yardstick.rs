@@ -4,11 +4,13 @@
 //        yardstick METHOD contacts DRAWING STEP RMAX
 //        yardstick METHOD cover DRAWING CODE SN/SD PITCH
 //        yardstick METHOD moves CODE
+//        yardstick METHOD flatten dxf|pbm DRAWING
 //        yardstick near check DRAWING CODE SN/SD RMAX   how many tests of a move against an edge are due
 // METHOD is `grid`: edges are found by a uniform grid of cells, and what is inside by bands of rows; `all`: each question walks
 // all edges, each of them first by its box, and each point of a report all moves; or, for `contacts`, `double`: as `grid`, in double precision, with answers that may be off.
 // It takes the files that make_inputs.py makes, at 100 grid units a millimetre, and judges no fault of a text.
 mod coverage;
+mod outlines;
 
 use std::fs::read;
 use std::io::{Write, stdout};
@@ -782,6 +784,7 @@ fn answer(method: &str, words: &[&str]) -> Text {
             contacts(&mut Scene::of(edges, method), &loops, step, rmax, method != "double")
         }
         ["moves", code] => list(&read_code(code)),
+        ["flatten", form, drawing] => outlines::flatten(form, drawing),
         _ => std::process::exit(2),
     }
 }

@@ -119,6 +119,27 @@ def touching(rng, reach):
     return loops
 
 
+def apart(rng, reach):
+    """Loops in quarters of their own, which don't cross."""
+    half = max(2, reach // 2)
+    quarters = rng.sample([(-1, -1), (1, -1), (1, 1), (-1, 1)], rng.randint(2, 4))
+    loops = []
+    for v, w in quarters:
+        loop = rng.choice([star, with_midpoints, steps, few_rows])(rng, half - 1)
+        loops.append([(x + v * half, y + w * half) for x, y in loop])
+    return loops
+
+
+def pinned(rng, reach):
+    """A loop, and others outwards from some of its points, which are theirs too."""
+    loops = [star(rng, max(2, reach // 2))]
+    for x, y in rng.sample(loops[0], min(len(loops[0]), rng.randint(1, 3))):
+        v, w = (reach if x > 0 else -reach), (reach if y > 0 else -reach)
+        across, up = (x + v // rng.randint(2, 9), y), (x, y + w // rng.randint(2, 9))
+        loops.append([(x, y), across, (across[0], up[1]), up] if rng.random() < 0.5 else [(x, y), across, up])
+    return loops
+
+
 def repeated(rng, reach):
     """A loop again, turned, reversed or not."""
     loop = any_loop(rng, reach)
@@ -140,7 +161,7 @@ def empty(*_):
     return []
 
 
-DRAWINGS = {alone: 30, several: 20, nested: 20, touching: 12, repeated: 8, far: 8, cornered: 4, empty: 1}
+DRAWINGS = {alone: 30, several: 20, nested: 20, apart: 40, pinned: 40, touching: 12, repeated: 8, far: 8, cornered: 4, empty: 1}
 
 
 def as_loop(points):

@@ -9,6 +9,7 @@ import argparse
 import concurrent.futures
 import math
 import random
+import re
 import shutil
 import subprocess
 import sys
@@ -19,9 +20,12 @@ from pathlib import Path
 
 import cases
 import definitions
+import form_cases
+import forms
 import sampling
 from definitions import MOST_DEPTH, Bit
 from wrong_definitions import WRONG
+from wrong_forms import WRONG_FORMS
 
 BUILT = Path(__file__).resolve().parent.parent / "crates" / "engrave_cli" / "out" / "engrave_cli"
 HOW_TO_BUILD = "(cd crates/engrave_cli && rt run -- probe --drawing=data/plate.loops --at=500,500 --bit=1/1 --rmax=600)"
@@ -37,27 +41,41 @@ LONGEST_FOR_SLIM = 2000
 # drawing; and to how many codes that are checked there is one that is covered
 DEPTHS, CODES, LISTED, STEPS, DISCS, CARVED, PER_COVERED = 12, 14, 2, 2, 6, 1, 3
 
+# how many files in each form there are for each drawing, and how often a drawing that crosses itself is made anew
+FORMED, ANEW = 5, 30
+
 SPARED, WITHIN = "clear: edges of which no sampled point is removed", "clear: removed points that are inside"
 CARVED_MOVES, CARVED_CLEAR = "carve: the moves of the program", "carve: the program is called clear"
-COMPARED = ["inside", "depth", "contacts", "discs", "moves", "check", "cover", SPARED, WITHIN, "carve", CARVED_MOVES, CARVED_CLEAR]
+COMPARED = ["crossing", "inside", "depth", "contacts", "discs", "moves", "check", "cover", SPARED, WITHIN, "carve", CARVED_MOVES, CARVED_CLEAR]
+AGAIN, ALIKE = "flatten: what was written, again", "the same answer for a file and what it is flattened to"
+COMPARED += [f"flatten: {form}" for form in form_cases.MAKERS] + [AGAIN, ALIKE]
 
 
 class Comparison:
     """One drawing, with points and codes, against the program."""
 
-    def __init__(self, program, folder, seed, number):
-        self.rng = random.Random(f"{seed}/{number}")
+    def __init__(self, program, folder, seed, number, forms_alone):
+        self.rng, self.forms_alone = random.Random(f"{seed}/{number}"), forms_alone
         self.program, self.number, self.folder = program, number, folder / f"case{number}"
         self.folder.mkdir()
         self.compared, self.differing, self.spread, self.differences = Counter(), Counter(), Counter(), []
-        self.kind, self.reach, self.loops = cases.drawing(self.rng)
-        self.edges = definitions.edges_of(self.loops)
+        self.kind, self.reach, self.loops, self.edges, self.crossing = self.made()
         self.drawing = self.write("drawing.loops", cases.loops_text(self.rng, self.loops))
         self.spread[f"drawing: {self.kind}"] += 1
 
+    def made(self):
+        """A drawing, its edges, and the first two that cross: none does in most."""
+        for _ in range(ANEW):
+            kind, reach, loops = cases.drawing(self.rng)
+            edges = definitions.edges_of(loops)
+            crossing = forms.first_crossing(edges)
+            if crossing is None or self.rng.random() < 0.05:
+                break
+        return kind, reach, loops, edges, crossing
+
     def write(self, name, text):
         path = self.folder / name
-        path.write_bytes(text.encode())
+        path.write_bytes(text if isinstance(text, bytes) else text.encode())
         return path
 
     def run(self, *words):
@@ -72,7 +90,7 @@ class Comparison:
             said = " ".join(map(str, inputs))
             lines = [f"{what} differs in case {self.number}: {said}", f"due: {due}", f"got: {got}"]
             files = [path for path in sorted(self.folder.iterdir()) if str(path) in said]
-            self.differences.append("\n".join(lines + [f"--- {path}\n{path.read_bytes().decode()}" for path in files]))
+            self.differences.append("\n".join(lines + [f"--- {path}\n{path.read_bytes().decode(errors='backslashreplace')}" for path in files]))
 
     def geometry(self, bit):
         return [f"--drawing={self.drawing}", f"--bit={bit.sn}/{bit.sd}", f"--rmax={bit.rmax}"]
@@ -253,16 +271,73 @@ class Comparison:
             self.spread["check: gouge, " + failing_tests(bit, mv, self.edges[number])] += 1
         self.spread[f"witness: {fault}, {'found' if found else 'not found'}"] += 1
 
+    def compare_crossing(self):
+        """Each command refuses a drawing that crosses itself, before it looks for the G-code program."""
+        bit = ["--bit=1/1", "--rmax=100"]
+        commands = {"flatten": [], "probe": [*bit, "--at=0,0"], "contacts": ["--step=7", "--rmax=9"], "carve": [*bit, "--step=7"]}
+        for name, options in {**commands, "check": [*bit, "--code=none"], "cover": [*bit, "--code=none"]}.items():
+            words = [name, f"--drawing={self.drawing}", *options]
+            self.agree("crossing", (3, "input cross %d,%d\n" % self.crossing), self.run(*words), *words)
+
+    def compare_formed(self):
+        for form in form_cases.MAKERS:
+            for number in range(FORMED):
+                data, words = form_cases.formed(self.rng, form)
+                self.compare_flattened(self.write(f"{form}{number}", data), words)
+
+    def compare_flattened(self, path, words):
+        options = [f"--drawing={path}", *form_cases.options_of(self.rng, words)]
+        due, what = forms.flattened(path.read_bytes(), words), f"flatten: {words.form}"
+        if self.rng.random() < 0.02:
+            options, due = [*[option for option in options if "=" in option and not option.startswith(RANGED)], form_cases.wrong_option(self.rng)], (2, "usage\n")
+        got = self.run("flatten", *options)
+        self.agree(what, due, got, "flatten", *options)
+        self.spread[f"{what}, {kind_of(*due)}"] += 1
+        if got[0] == 0 and due == got:
+            self.compare_again(path, options, got[1])
+
+    def compare_again(self, path, options, text):
+        """What is written is the drawing, in loops form."""
+        flat = self.write(path.name + ".loops", text)
+        lines = [line for line in text.splitlines(keepends=True) if not line.startswith("#")]
+        self.agree(AGAIN, (0, "".join(lines)), self.run("flatten", f"--drawing={flat}"), "flatten", *options, flat)
+        x, y = self.rng.choice([point for line in lines for point in line.split()] or ["0,0"]).split(",")
+        near = cases.on_grid(*(int(z) + self.rng.randint(-9, 9) for z in (x, y)))
+        for command in (["probe", "--at=%d,%d" % near, "--bit=1/3", "--rmax=99"], ["contacts", "--step=9", "--rmax=31"]):
+            self.agree(ALIKE, self.run(*command, f"--drawing={flat}"), self.run(*command, *options), *command, *options, flat)
+
     def whole(self):
+        if not self.forms_alone:
+            if self.crossing is None:
+                self.compare_drawing()
+            else:
+                self.compare_crossing()
+            self.compare_listed()
+        self.compare_formed()
+        return self.done()
+
+    def compare_drawing(self):
         inside = self.compare_inside()
         self.compare_depths(inside)
         self.compare_contacts()
-        self.compare_listed()
         self.compare_checks(inside)
         self.compare_carved()
+
+    def done(self):
         if not self.differences:
             shutil.rmtree(self.folder)
         return self
+
+
+RANGED = tuple(f"--{name}=" for name in form_cases.RANGES)
+
+
+def kind_of(status, text):
+    """The outcome without its numbers and its points."""
+    if status:
+        return re.sub(r"-?[0-9]+(,-?[0-9]+)?", "N", text.strip())
+    lines = [line for line in text.splitlines() if not line.startswith("#")]
+    return "no loop" if not lines else "one loop" if len(lines) == 1 else "several loops"
 
 
 def spot_text(spot):
@@ -296,9 +371,10 @@ def failing_tests(bit, mv, edge):
 
 
 def take_wrong(kind):
-    if kind:
-        name, wrong = WRONG[kind]
-        setattr(definitions, name, wrong)
+    if kind in WRONG:
+        setattr(definitions, *WRONG[kind])
+    elif kind:
+        setattr(forms, *WRONG_FORMS[kind])
 
 
 def compare_case(arguments):
@@ -311,7 +387,8 @@ def results(options, folder, kind=None):
     pool = concurrent.futures.ProcessPoolExecutor(options.workers, initializer=take_wrong, initargs=(kind,))
     numbers = range(options.cases) if options.case is None else [options.case]
     try:
-        yield from pool.map(compare_case, ((options.program, folder, options.seed, n) for n in numbers), chunksize=4)
+        alone = options.forms or kind in WRONG_FORMS
+        yield from pool.map(compare_case, ((options.program, folder, options.seed, n, alone) for n in numbers), chunksize=4)
     finally:
         pool.shutdown(cancel_futures=True)
 
@@ -329,7 +406,8 @@ def compare(options, folder):
             print(f"case {number} is the last, since the time is up")
             break
     for what in COMPARED:
-        print(f"{what}: {compared[what]} compared, {differing[what]} differ")
+        if compared[what]:
+            print(f"{what}: {compared[what]} compared, {differing[what]} differ")
     print(f"\nthe spread, after {time.monotonic() - started:.0f} s:")
     for what in sorted(spread):
         print(f"  {what}: {spread[what]}")
@@ -338,7 +416,7 @@ def compare(options, folder):
 
 def find_out_wrong(options, folder):
     """Prints in which case each wrong definition was found out, and gives whether all were."""
-    kinds = list(WRONG) if options.wrong == "all" else [options.wrong]
+    kinds = {"all": [*WRONG, *WRONG_FORMS], "forms": list(WRONG_FORMS)}.get(options.wrong, [options.wrong])
     all_found = True
     for kind in kinds:
         found = next(((n, less) for n, _, less, _, _ in results(options, folder, kind) if less), None)
@@ -358,7 +436,8 @@ def read_options():
     parser.add_argument("--minutes", type=float, default=math.inf, help="after so many, no further case is compared")
     parser.add_argument("--program", type=Path, default=BUILT)
     parser.add_argument("--workers", type=int, default=2, help="how many processes")
-    parser.add_argument("--wrong", choices=["all", *WRONG], help="take a wrong definition, which must be found out")
+    parser.add_argument("--forms", action="store_true", help="files in the four forms alone")
+    parser.add_argument("--wrong", choices=["all", "forms", *WRONG, *WRONG_FORMS], help="take a wrong definition, which must be found out")
     return parser.parse_args()
 
 

@@ -5,13 +5,16 @@
 
 A case is a folder: README.md says in two sentences what it shows, `words` has the words of the command, one a line, `expected` the
 whole text that it writes, `status` its exit status if that isn't 0; the other files are those that it reads. Each command
-line `$ engrave_cli ..` in README.md and docs/ has to be the words of a case, and the lines under it, what the case writes; where
-the line ends with `> FILE` there are none, and each file of this name in examples/ has to be what the case writes. A block under
-a line `<!-- FILE -->` has to be that file of examples/. Each case that docs/MESSAGES.md names beside a line has to write it.
+line `$ engrave_cli ..` in README.md and docs/ has to be the words of a case, as a shell takes them, and the lines under it, what
+the case writes; where the line ends with `> FILE` there are none, and each file of this name in examples/ has to be what the case
+writes. A file of the repository that isn't the case's own, as a font, has its path from the top in the documents, and with `../../`
+before it in the case. A block under a line `<!-- FILE -->` has to be that file of examples/. Each case that docs/MESSAGES.md names
+beside a line has to write it.
 """
 
 import argparse
 import re
+import shlex
 import subprocess
 import sys
 import textwrap
@@ -61,7 +64,7 @@ def indented_blocks(lines):
 
 def document_faults(path, cases):
     """What is wrong with the examples that a document shows."""
-    shown = {" ".join(case.words): case for case in cases}
+    shown = {tuple(word.replace("../../", "") for word in case.words): case for case in cases}
     for above, block in indented_blocks(path.read_text().splitlines()):
         named = re.fullmatch(r"<!-- (\S+) -->", above)
         if named and (TOP / "examples" / named[1]).read_text().splitlines() != block:
@@ -70,7 +73,7 @@ def document_faults(path, cases):
         for run in runs[1:] if "\n".join(block).startswith("$ engrave_cli ") else []:
             line, _, text = run.partition("\n")
             words, _, file = line.partition(" > ")
-            case = shown.get(words)
+            case = shown.get(tuple(shlex.split(words)))
             if case is not None and file:
                 files = list((TOP / "examples").glob("*/" + file))
                 if text.strip() or not files or any(path.read_bytes() != case.expected for path in files):

@@ -1,4 +1,4 @@
-"""Feeds the built program truncated, huge, binary and adversarial words, drawings and code, and checks how each run ends.
+"""Feeds the built program truncated, huge, binary and adversarial words, drawings of each form and code, and checks how each run ends.
 
     python3 tools/hostile.py [--runs N] [--seed N] [--program PATH] [--huge]      (on Linux)
 
@@ -25,6 +25,7 @@ from pathlib import Path
 # The folder stays as it is.
 sys.dont_write_bytecode = True
 
+import form_cases
 import hostile_expected
 import hostile_rows as rows
 
@@ -61,6 +62,9 @@ def row_cases():
         yield case_of("carvings by hand", words, {"d": drawing}, status, text)
     for words, drawing, code, status, text in rows.COVERS:
         yield case_of("covers by hand", words, {"d": drawing, "c": code}, status, text)
+    for words, drawing, status, text in rows.FORMED:
+        case = case_of("forms by hand", f"{rows.FLATTEN} {words}", {"d": drawing}, status, text)
+        yield case if text is not None else case._replace(text=hostile_expected.due(case.words, {b"d": drawing})[1])
     for words, status, text in rows.WORDS:
         yield case_of("words by hand", words, plain, status, text)
     for words, status, text in rows.NAMES + (rows.UNREADABLE if os.geteuid() else []):
@@ -69,7 +73,8 @@ def row_cases():
         for output in ("full", "closed", "broken", "read only"):
             yield case_of("outputs that fail", words, plain, 6, None)._replace(output=output)
     for words, drawing, code, status, text in rows.LARGE:
-        yield case_of("large inputs", words, {"d": drawing, "c": code}, status, text)
+        case = case_of("large inputs", words, {"d": drawing, "c": code}, status, None if text is ... else text)
+        yield case._replace(text=None) if text is ... else case
 
 
 def due_case(part, words, drawing, code):
@@ -91,6 +96,10 @@ def cut_cases():
     for words in (rows.CONTACTS, rows.CARVE):
         for end in range(len(rows.PLATE)):
             yield due_case("cut drawings", words.encode().split(), rows.PLATE[:end], b"")
+    for options, drawing in ((rows.DXF, rows.dxf(rows.SIDES)), (rows.DXF, rows.dxf(rows.ROUND)), (rows.CXF, rows.FONT), (rows.PBM, rows.PLAIN_MAP), (rows.PBM, rows.PACKED_MAP)):
+        words = f"{rows.FLATTEN} {options}".encode().split()
+        for end in range(len(drawing)):
+            yield due_case("cut forms", words, drawing[:end], b"")
     listed = rows.PROBE + " --limit=70 --form=loops", rows.MOVES + " --units=mm1000"
     for words in (rows.CONTACTS, rows.CARVE + " --safe=1 --feed=1", *listed, rows.CHECK, rows.COVER + " --pitch=7"):
         for end in range(len(words)):
@@ -100,9 +109,11 @@ def cut_cases():
 def scarce_cases():
     """Runs that have less and less memory: they answer, or end with the status that tells the want of it."""
     far = [rows.FAR, (b"Z9\n", 300_000)]
-    specks = [(b"0,0 1,1\n", 65_536)]
+    lines = [(rows.BEGIN, 1), (rows.LINE, 131_072), (rows.END, 1)]
     for name, words, file, status, text in (
-        ("d", rows.PROBE, specks, 0, "depth 0"),
+        ("d", rows.PROBE, rows.RING, 0, "depth 0"),
+        ("d", rows.IN_DXF, lines, 3, "input cross 0,1"),
+        ("d", rows.IN_PBM + " --pixel=4", [(b"P4 8191 8191\n", 1), (b"\xff", 8_387_584)], 0, "32764,32764 0,32764 0,0 32764,0"),
         ("d", rows.SPREAD, [(rows.SPREAD_SQUARES, 2)], 3, "input too many chains"),
         ("c", rows.MOVES, far, 0, "moves 300000"),
     ):
@@ -138,8 +149,20 @@ def changed(chance, text, tokens):
     return bytes(text)
 
 
+def formed_case(chance):
+    """A file of some form, as it is or changed."""
+    form = chance.choice(list(form_cases.MAKERS))
+    drawing, said = form_cases.formed(chance, form)
+    for _ in range(chance.choice((0, 1, 1, 2, 3))):
+        drawing = chance.choice((form_cases.mutated(chance, drawing), changed(chance, drawing, rows.FORM_TOKENS)))
+    words = chance.choice(rows.DRAWN).split() + form_cases.options_of(chance, said)
+    return due_case(f"changed {form} files", [word.encode() for word in words], drawing, b"")
+
+
 def random_case(chance):
     """One changed input."""
+    if chance.random() < 0.4:
+        return formed_case(chance)
     reader = chance.choice(("drawings", "codes", "checks", "contacts", "carvings", "covers", "words"))
     drawing, code = chance.choice(rows.DRAWING_BASES), chance.choice(rows.CODE_BASES)
     words = chance.choice(rows.WORD_BASES[reader]).encode()
@@ -222,11 +245,14 @@ def bounds(case):
     points = count_in(case.files.get("d", []), b",") if case.words[:1] in ([b"contacts"], [b"carve"]) else 0
     contacts = min(points * (1 + hostile_expected.MOST_PIECES), hostile_expected.MOST_CONTACTS)
     nodes = min(contacts * hostile_expected.MOST_STEPS, hostile_expected.MOST_NODES) if case.words[:1] == [b"carve"] else 0
+    form = next((word[7:] for word in case.words if word.startswith(b"--form=")), b"loops")
+    segments = min(size / rows.BYTES_OF_A_SEGMENT.get(form, 1), hostile_expected.forms.MOST_SEGMENTS)
     memory = rows.BYTES_A_BYTE * size + rows.BYTES_A_MOVE * moves + rows.BYTES_A_WORD * len(case.words)
     memory += rows.BYTES_A_CONTACT * contacts
     reading = rows.SECONDS_A_MEBIBYTE * size / MEBIBYTE + rows.SECONDS_A_MOVE * moves
     planning = rows.SECONDS_A_CONTACT * contacts + rows.SECONDS_A_NODE * nodes
     rows_up, dots = reported(case)
+    planning += rows.SECONDS_A_SEGMENT * segments
     reporting = rows.SECONDS_A_POINT * dots + rows.SECONDS_A_ROW * rows_up * (moves + nodes)
     return rows.SECONDS + reading + planning + reporting + rows.SECONDS_A_PAIR * pairs, rows.MEBIBYTES + memory / MEBIBYTE
 
@@ -307,6 +333,8 @@ def is_in_form(case, status):
             line = b""
         line += text.read(1024)
     if (command, status) == (b"contacts", 0):
+        return line == b""
+    if (command, status) == (b"flatten", 0):
         return line == b""
     if (command, status) == (b"carve", 0):
         return line == b"M2\n" and listed >= 5

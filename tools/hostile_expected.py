@@ -4,18 +4,26 @@ import re
 from fractions import Fraction
 from math import isqrt
 
-MOST_POINTS, MOST_DRAWING, MOST_CODE = 131_072, 16_777_216, 536_870_912
+import forms
+
+MOST_DRAWING, MOST_CODE = 16_777_216, 536_870_912
 MOST_PIECES, MOST_CONTACTS = 8192, 1_048_576
 MOST_CHAINS, MOST_NODES, MOST_STEPS = 131_072, 4_194_304, 256
 MOST_REPORTED = 16_777_216
 PER_UNIT = {b"mm10": 10, b"mm100": 100, b"mm1000": 1000, b"in100": 100, b"in1000": 1000}
+# The options of a drawing, and what the numbers of each range over.
+SHAPE = {b"chord": (1, 90), b"snap": (0, 16), b"pixel": (1, 1000), b"height": (1, 32_767), b"width": (10, 500)}
+SHAPE |= {b"charspace": (0, 500), b"wordspace": (0, 500), b"linespace": (10, 500)}
+SHAPE_WORDS = {b"form": b"loops dxf cxf pbm", b"units": b"mm10 mm100 mm1000 in100 in1000", b"justify": b"left center right", b"mirror": b"no yes", b"flip": b"no yes"}
+DRAWN = b"drawing text " + b" ".join([*SHAPE, *SHAPE_WORDS])
 OPTIONS = {
-    b"probe": (b"drawing form units bit rmax at limit", b"drawing bit rmax at"),
-    b"contacts": (b"drawing form units step rmax", b"drawing step rmax"),
+    b"flatten": (DRAWN, b"drawing"),
+    b"probe": (DRAWN + b" bit rmax at limit", b"drawing bit rmax at"),
+    b"contacts": (DRAWN + b" step rmax", b"drawing step rmax"),
     b"moves": (b"code units", b"code"),
-    b"check": (b"drawing form units bit rmax code", b"drawing bit rmax code"),
-    b"carve": (b"drawing form units bit rmax step limit safe feed pitch", b"drawing bit rmax step"),
-    b"cover": (b"drawing form units bit rmax code pitch", b"drawing bit rmax code"),
+    b"check": (DRAWN + b" bit rmax code", b"drawing bit rmax code"),
+    b"carve": (DRAWN + b" bit rmax step limit safe feed pitch", b"drawing bit rmax step"),
+    b"cover": (DRAWN + b" bit rmax code pitch", b"drawing bit rmax code"),
 }
 G_TAKEN = {Fraction(number, 10) for number in (170, 200, 210, 400, 490, 540, 610, 640, 800, 900, 911, 940)}
 
@@ -68,47 +76,25 @@ def request(words):
         (b"safe", b"", 1, 32_767),
         (b"feed", b"", 1, 10_000),
         (b"pitch", b"", 1, 32_767),
+        *((name, b"", *ends) for name, ends in SHAPE.items()),
     ):
         if name in values:
             taken[name] = numbers(values[name], separator, low, high)
-    if values.get(b"form", b"loops") != b"loops" or values.get(b"units", b"mm100") not in PER_UNIT:
+    if any(name in values and values[name] not in known.split() for name, known in SHAPE_WORDS.items()):
+        raise Refusal(2, b"usage\n")
+    if b"text" in values and not 1 <= len(values[b"text"].decode()) <= 200 or values.get(b"form") == b"cxf" and b"text" not in values:
         raise Refusal(2, b"usage\n")
     return command, values, taken
 
 
-def points_of(words, room):
-    """The points of a loop's words, each with its place."""
-    points = []
-    for at, word in words:
-        pair = re.fullmatch(rb"(-?[0-9]{1,9}),(-?[0-9]{1,9})", word)
-        point = tuple(map(int, pair.groups())) if pair else None
-        for is_so, kind in (
-            (not pair, "syntax"),
-            (pair and not all(-32_768 <= number <= 32_767 for number in point), "out of range"),
-            (points and points[-1] == point, "same point"),
-            (len(points) == room, "too many"),
-        ):
-            if is_so:
-                raise Refusal(3, b"input loops %d %s\n" % (at, kind.encode()))
-        points.append(point)
-    if len(points) < 2:
-        raise Refusal(3, b"input loops %d short\n" % words[0][0])
-    if points[0] == points[-1]:
-        raise Refusal(3, b"input loops %d same point\n" % words[-1][0])
-    return points
-
-
-def edges_of(text):
-    """The edges of a drawing in loops form."""
-    edges, start = [], 0
-    for line in text.split(b"\n"):
-        shown = line[:-1] if line.endswith(b"\r") else line
-        words = [(start + word.start(), word.group()) for word in re.finditer(rb"[^ \t]+", shown)]
-        start += len(line) + 1
-        if words and not words[0][1].startswith(b"#"):
-            points = points_of(words, MOST_POINTS - len(edges))
-            edges += zip(points, points[1:] + points[:1])
-    return edges
+def drawing_of(values, taken, data):
+    """The loops of a drawing, and how many entities of its file were skipped."""
+    said = {name.decode(): values[name].decode() for name in (*SHAPE_WORDS, b"text") if name in values}
+    said |= {name.decode(): taken[name][0] for name in SHAPE if name in taken}
+    try:
+        return forms.drawing_of(data, forms.Words(**said))
+    except forms.Refused as refused:
+        raise Refusal(3, str(refused).encode() + b"\n") from None
 
 
 def square_apart(p, a, b):
@@ -255,7 +241,10 @@ def due(words, files):
             word.decode()
         command, values, taken = request(words)
         if command != b"moves":
-            edges = edges_of(file_of(files, values[b"drawing"], b"drawing", MOST_DRAWING))
+            loops, skipped = drawing_of(values, taken, file_of(files, values[b"drawing"], b"drawing", MOST_DRAWING))
+            edges = forms.edges_of(loops)
+        if command == b"flatten":
+            return (0,), (b"" if skipped is None else b"# skipped %d\n" % skipped) + forms.loops_text(loops).encode()
         if command == b"probe":
             limit = taken.get(b"limit", [32_767])[0]
             return (0,), b"depth %d\n" % greatest_depth(edges, taken[b"at"], taken[b"bit"], taken[b"rmax"][0], limit)

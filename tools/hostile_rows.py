@@ -18,8 +18,13 @@ LEFT = rb"uncut %s of %s" % ((COUNT,) * 2)
 CARVED_LINES += [rb"\(%s\)" % RUN, rb"\(%s\)" % LEFT]
 CARVED_LINE = re.compile(rb"(%s)\n" % rb"|".join(CARVED_LINES))
 # The lines that are listed by a command, before its last line or alone.
-LISTED_LINES = {b"moves": MOVE, b"contacts": CONTACT, b"carve": CARVED_LINE, b"cover": re.compile(RUN + rb"\n")}
+POINT = rb"-?%s,-?%s" % ((COUNT,) * 2)
+LOOP = re.compile(rb"# skipped %s\n|%s( %s)+\n" % (COUNT, POINT, POINT))
+LISTED_LINES = {b"moves": MOVE, b"contacts": CONTACT, b"carve": CARVED_LINE, b"cover": re.compile(RUN + rb"\n"), b"flatten": LOOP}
 LOOPS_KINDS = rb" (syntax|out of range|same point|too many|short)"
+FORMS_KINDS = rb"|dxf pair [1-9][0-9]* (bad code|missing (10|11|20|21|40|50|51)|number|unended|out of range|too many)"
+FORMS_KINDS += rb"|cxf line [1-9][0-9]* (syntax|number)|lay (no glyph " + COUNT + rb"|out of range|too many)"
+FORMS_KINDS += rb"|pbm (magic|header|size|short|pixel)|pixels (out of range|too many)|open -?%s,-?%s|cross %s,%s" % ((COUNT,) * 4)
 CODE_KINDS = rb" (word|number|off grid|twice|units|incremental|unplaced|out of range|long line|open comment|too many)"
 FORMS = {
     (b"probe", 0): rb"depth (0|[1-9][0-9]{0,4})\n",
@@ -28,7 +33,7 @@ FORMS = {
     (b"cover", 0): LEFT + rb"\n",
     (b"check", 1): rb"line [1-9][0-9]* (too deep|gouge edge " + COUNT + rb"|outside)\n",
     2: rb"usage\n",
-    3: rb"input (too long (drawing|code)|loops " + COUNT + LOOPS_KINDS + rb"|code line [1-9][0-9]*" + CODE_KINDS + rb"|step too fine " + COUNT + rb"|too many (contacts|nodes|chains|points))\n",
+    3: rb"input (too long (drawing|code)|loops " + COUNT + LOOPS_KINDS + FORMS_KINDS + rb"|code line [1-9][0-9]*" + CODE_KINDS + rb"|step too fine " + COUNT + rb"|too many (contacts|nodes|chains|points))\n",
     4: rb"absent (drawing|code)\n",
     5: rb"read fault\n",
     6: rb"",
@@ -49,6 +54,7 @@ CONTACTS = "contacts --drawing=d --step=250 --rmax=600"
 CARVE = "carve --drawing=d --bit=1/1 --rmax=600 --step=500"
 SPREAD = "carve --drawing=d --bit=2/1 --rmax=1 --step=4 --pitch=32767"
 COVER = "cover --drawing=d --code=c --bit=1/1 --rmax=200"
+FLATTEN = "flatten --drawing=d"
 
 # Drawings for PROBE: the bytes, the status, the line.
 DRAWINGS = [
@@ -82,14 +88,20 @@ DRAWINGS = [
     (b"0,0 0,0\n", 3, "input loops 4 same point"),
     (b"0,0 1,1 -0,00\n", 3, "input loops 8 same point"),
     (b"0,0 1,1\n0,0 1,1 1,1 x\n", 3, "input loops 16 same point"),
-    (b"32767,-32768 -32768,32767\n", 0, "depth 0"),
+    (b"32767,-32768 -32768,32767 -32768,32766\n", 0, "depth 0"),
+    (b"32767,-32768 -32768,32767\n", 3, "input cross 0,1"),
+    (SQUARE * 2, 3, "input cross 0,4"),
+    (b"-9,0 9,0 0,9\n0,0 5,-5 -5,-5\n", 3, "input cross 0,3"),
+    (b"0,0 1,1 9,9 0,9\n", 0, "depth 0"),
+    (b"0,0 9,9 9,0 0,9\n", 3, "input cross 0,2"),
+    (b"0,0 9,9 9,0 0,9\nx", 3, "input loops 16 syntax"),
     (b"-32768,-32768 32767,-32768 32767,32767 -32768,32767\n", 0, "depth 600"),
     (b"32768,0 0,0\n", 3, "input loops 0 out of range"),
     (b"0,0 0,-32769\n", 3, "input loops 4 out of range"),
     (b"999999999,0 1,1\n", 3, "input loops 0 out of range"),
     (b"1000000000,0 1,1\n", 3, "input loops 0 syntax"),
     (b"0000000001,0 1,1\n", 3, "input loops 0 syntax"),
-    (b"000000001,0 -00000001,1\n", 0, "depth 0"),
+    (b"000000001,0 -00000001,1 0,5\n", 0, "depth 0"),
     (b"9" * 27 + b",0 1,1\n", 3, "input loops 0 syntax"),
     ([(b"1,1 0,", 1), (b"0", 1_000_000)], 3, "input loops 4 syntax"),
     (b"-,0 1,1\n", 3, "input loops 0 syntax"),
@@ -217,7 +229,7 @@ CHECKS = [
     (b"0,0\n", b"Q", 3, "input loops 0 short"),
     (ANGLE, b"Q", 3, "input code line 1 word"),
     (ANGLE, b"\0" + DOWN, 3, "input code line 1 word"),
-    ([(b"0,0 1,0\n", 60_000)], DOWN, 1, "line 4 outside"),
+    ([(b"0,0 1,0\n", 60_000)], b"Q", 3, "input cross 0,1"),
 ]
 
 # Drawings for carve: the words, the bytes, the status, the text.
@@ -256,11 +268,11 @@ M2""",
         + "".join(CORNER % place for place in (("0.00", "0.00"), ("0.00", "0.00"), ("0.04", "0.00"), ("0.04", "0.04"), ("0.00", "0.04")))
         + "(uncut y 1 x 1 to 3)\n(uncut y 2 x 1 to 3)\n(uncut y 3 x 1 to 3)\n(uncut 9 of 9)\nM2",
     ),
-    # There and back: nothing is inside.
-    (FINE, b"0,0 1,0\n", 0, HEAD + "".join(CORNER % place for place in (("0.00", "0.00"), ("0.00", "0.00"), ("0.01", "0.00"))) + "(uncut 0 of 0)\nM2"),
+    # There and back.
+    (FINE, b"0,0 1,0\n", 3, "input cross 0,1"),
     (CARVE, b"0,0\n", 3, "input loops 0 short"),
     (FINE, b"-32768,0 32767,0 0,1\n", 3, "input step too fine 0"),
-    (FINE, FOUR + b"0,0 32767,0 0,9\n", 3, "input step too fine 4"),
+    (FINE, FOUR + b"0,8 32767,8 0,9\n", 3, "input step too fine 4"),
     (FINE.replace("step=2", "step=32767"), b"-1,-1 32767,-1 0,600\n", 3, "input too many points"),
 ]
 
@@ -269,11 +281,13 @@ COVERS = [
     (COVER, b"", b"", 0, "uncut 0 of 0"),
     (COVER, b"", b"Q", 3, "input code line 1 word"),
     (COVER, b"0,0", b"Q", 3, "input loops 0 short"),
-    (COVER + " --pitch=1", b"-32768,-32768 32767,32767\n", b"Q", 3, "input code line 1 word"),
-    (COVER + " --pitch=1", b"-32768,-32768 32767,32767\n", b"", 3, "input too many points"),
+    (COVER + " --pitch=1", b"-32768,-32768 32767,32767\n", b"Q", 3, "input cross 0,1"),
+    (COVER + " --pitch=1", b"-32768,-32768 32767,32767 0,9\n", b"Q", 3, "input code line 1 word"),
+    (COVER + " --pitch=1", b"-32768,-32768 32767,32767 0,9\n", b"", 3, "input too many points"),
     (COVER + " --pitch=1", b"0,0 4095,0 4095,4096\n", b"", 3, "input too many points"),
-    # 4096 rows of 4096 points: none of two points of a loop is inside.
-    (COVER + " --pitch=1", b"0,0 4095,4095\n", b"", 0, "uncut 0 of 0"),
+    # 4096 rows of 4096 points: none is inside so slim a triangle.
+    (COVER + " --pitch=1", b"0,0 4095,4095 4094,4094 1,0\n", b"", 3, "input cross 0,1"),
+    (COVER + " --pitch=1", b"0,0 4095,4095 4094,4095\n", b"", 0, "uncut 0 of 0"),
     (COVER + " --pitch=500", SQUARE, b"", 0, "uncut y 500 x 500 to 500\nuncut 1 of 1"),
     (COVER + " --pitch=500", SQUARE, b"Z1\nX5Y5\nZ-.001\n", 0, "uncut 0 of 1"),
     # The disc is open, and a line that isn't below the surface removes nothing.
@@ -282,10 +296,110 @@ COVERS = [
     (COVER + " --pitch=32767", b"-32768,-32768 32767,-32768 32767,32767 -32768,32767\n", b"", 0, "uncut y -32767 x -32767 to 0\nuncut y 0 x -32767 to 0\nuncut 4 of 4"),
 ]
 
+# Files in the other forms: the words behind FLATTEN, the bytes, the status, the text.
+DXF, CXF, PBM = "--form=dxf", "--form=cxf --text=I", "--form=pbm"
+def dxf(words):
+    """A file with these pairs in its section of entities, a blank between two lines."""
+    return f"0 SECTION 2 ENTITIES {words} 0 ENDSEC 0 EOF ".replace(" ", "\n").encode()
+
+
+SIDES = "0 LINE 10 0 20 0 11 1 21 0 0 LINE 10 1 20 0 11 1 21 1 0 LINE 10 1 20 1 11 0 21 1 0 LINE 10 0 20 1 11 0 21 0"
+ROUND = "0 POLYLINE 66 1 70 1 0 VERTEX 10 0 20 0 42 1 0 VERTEX 10 1 20 0 0 SEQEND"
+FONT = b"# a small font\n[I] 4\nL 0,0,2,0\nL 2,0,2,9\nL 2,9,0,9\nL 0,9,0,0\n\n[O] 2\nA 4.5,4.5,4.5,0,360\nAR 4.5,4.5,2.5,0,360\n"
+LETTER_I = "0,0 200,0 200,900 0,900"
+PLAIN_MAP, PACKED_MAP = b"P1\n2 2\n10\n01\n", b"P4 10 2\n\x80\x40\xff\xc0"
+DIAGONAL = "100,200 0,200 0,100 100,100 200,100 200,0 100,0 100,100"
+FORMED = [
+    (DXF, b"", 3, "input dxf pair 1 unended"),
+    (DXF, b"\n", 3, "input dxf pair 1 bad code"),
+    (DXF, b"0\nEOF", 0, "# skipped 0"),
+    (DXF, b"-0\r\nEOF\r\nx", 0, "# skipped 0"),
+    (DXF, b"\xef\xbb\xbf0\nEOF\n", 3, "input dxf pair 1 bad code"),
+    (DXF, b"AutoCAD Binary DXF\r\n\x1a\0\0SECTION\0", 3, "input dxf pair 1 bad code"),
+    (DXF, "0\nEOF\n".encode("utf-16"), 3, "input dxf pair 1 bad code"),
+    (DXF, b"0\rEOF\r", 3, "input dxf pair 1 bad code"),
+    (DXF, b"0\n\0\n0\nEOF", 0, "# skipped 0"),
+    (DXF, dxf(SIDES), 0, "# skipped 0\n0,0 100,0 100,100 0,100"),
+    (DXF, dxf(SIDES + " 0 \xff\xff 1 \0"), 0, "# skipped 1\n0,0 100,0 100,100 0,100"),
+    (DXF, dxf(SIDES) * 2, 0, "# skipped 0\n0,0 100,0 100,100 0,100"),
+    (DXF, dxf(SIDES + " " + SIDES), 3, "input cross 0,4"),
+    (DXF, dxf("0 SECTION " * 50_000 + SIDES), 0, "# skipped 0\n0,0 100,0 100,100 0,100"),
+    (DXF, dxf("0 SEQEND " * 50_000 + SIDES), 0, "# skipped 50000\n0,0 100,0 100,100 0,100"),
+    (DXF, dxf("0 POLYLINE " * 50_000 + SIDES), 3, "input dxf pair 3 unended"),
+    (DXF, dxf("0 LINE 10 " + "9" * 100_000), 3, "input dxf pair 4 number"),
+    (DXF, dxf("0 LINE 10 0." + "0" * 100_000 + " 20 0 11 1 21 0"), 3, "input open 0,0"),
+    (DXF, dxf("0 LINE 10 1e999 20 0 11 1 21 0"), 3, "input dxf pair 3 out of range"),
+    (DXF, dxf("0 LINE 10 1e9999 20 0 11 1 21 0"), 3, "input dxf pair 4 number"),
+    (DXF, dxf("0 LINE 10 1e-999 20 -1e-999 11 0e999 21 0"), 0, "# skipped 0"),
+    (DXF, dxf("0 LINE 10 nan 20 inf 11 1 21 0"), 3, "input dxf pair 4 number"),
+    (DXF, dxf("0 LINE 10 1,5 20 0 11 1 21 0"), 3, "input dxf pair 4 number"),
+    (DXF, dxf("0 CIRCLE 10 0 20 0 40 327.67"), 0, None),
+    (DXF, dxf("0 CIRCLE 10 0 20 0 40 327.68"), 3, "input dxf pair 3 out of range"),
+    (DXF, dxf("0 ARC 10 0 20 0 40 1 50 99999999999 51 0"), 3, "input dxf pair 3 out of range"),
+    (DXF + " --chord=90", dxf(ROUND), 0, "# skipped 0\n0,0 50,-50 100,0"),
+    (DXF, dxf(ROUND.replace("42 1", "42 1e12")), 3, "input dxf pair 3 out of range"),
+    (DXF, dxf(ROUND.replace("0 SEQEND", "0 LINE")), 3, "input dxf pair 3 unended"),
+    (CXF, b"", 3, "input lay no glyph 0"),
+    (CXF, b"\0", 3, "input lay no glyph 0"),
+    (CXF, b"[\0]\nx", 3, "input cxf line 2 syntax"),
+    (CXF, b"[", 3, "input cxf line 1 syntax"),
+    (CXF, b"[I]", 0, None),
+    (CXF, FONT, 0, LETTER_I),
+    (CXF, FONT.replace(b"\n", b"\r\n"), 0, LETTER_I),
+    (CXF, FONT.replace(b"\n", b"\r"), 3, "input lay no glyph 0"),
+    (CXF, b"\xef\xbb\xbf" + FONT, 0, LETTER_I),
+    (CXF, FONT + b"[\xff]\n[\xc3\xa4]\n[\xc3]\n", 0, LETTER_I),
+    (CXF, FONT + b"[\xc3\xa4\xa4]\n", 3, "input cxf line 11 syntax"),
+    (CXF, FONT + b"[I]\nL 0,0,1,1\n" * 20_000, 0, LETTER_I),
+    (CXF, FONT + b"L 0,0,1,1," + b"," * 100_000, 3, "input cxf line 11 syntax"),
+    (CXF, FONT + b"L 0,0,1," + b"1" * 100_000, 3, "input cxf line 11 number"),
+    (CXF, FONT + b"#" * 100_000, 0, LETTER_I),
+    (CXF, FONT + b"[" + b"a" * 100_000 + b"]", 3, "input cxf line 11 syntax"),
+    (CXF, FONT + b"[#" + b"0" * 100_000 + b"61]", 3, "input cxf line 11 syntax"),
+    (CXF, FONT + b"L 0,0,1000.0000005,0", 3, "input cxf line 11 number"),
+    (CXF, FONT + b"A 0,0,-1,0,0", 3, "input cxf line 11 number"),
+    (CXF.replace("=I", "=" + "I" * 201), FONT, 2, "usage"),
+    (CXF.replace("=I", "=" + "I" * 200) + " --height=9 --charspace=500", FONT, 0, None),
+    (CXF.replace("=I", "=" + "I" * 200), FONT, 3, "input lay out of range"),
+    (CXF + " --height=32767 --width=500", FONT, 3, "input lay out of range"),
+    (CXF + " --height=1", FONT, 0, None),
+    (PBM, b"", 3, "input pbm magic"),
+    (PBM, b"P", 3, "input pbm magic"),
+    (PBM, b"P1", 3, "input pbm header"),
+    (PBM, b"P6 1 1 255\n\0\0\0", 3, "input pbm magic"),
+    (PBM, b"P1 " + b"#" * 100_000, 3, "input pbm header"),
+    (PBM, b"P1" + b"\n" * 100_000 + b"1 1 1", 0, "10,10 0,10 0,0 10,0"),
+    (PBM, b"P1 " + b"0" * 100_000 + b"1 1 1", 3, "input pbm header"),
+    (PBM, b"P1 99999 99999 1", 3, "input pbm size"),
+    (PBM, b"P4 8191 8191 ", 3, "input pbm short"),
+    (PBM, b"P1 8191 8191 ", 3, "input pbm short"),
+    (PBM + " --pixel=1000", b"P1 32 1 " + b"1" * 32, 0, None),
+    (PBM + " --pixel=1000", b"P1 33 1 " + b"1" * 33, 3, "input pixels out of range"),
+    (PBM + " --pixel=100", PLAIN_MAP, 0, DIAGONAL),
+    (PBM, PACKED_MAP, 0, None),
+    (PBM, b"P4 1 1\n", 3, "input pbm short"),
+    (PBM, b"P4 1 1\n\x7f", 0, None),
+    (PBM, b"P1 1 1\n\xff", 3, "input pbm pixel"),
+]
+
 # Words beside the files d with SQUARE and c with DOWN: the words, the status, the text. The system passes no word of more
 # than 131,071 bytes on.
 AT = "--drawing=d --at=500,500 --bit=1/1"
 LISTED = "4 100,300,200 100,300,-100\n5 100,300,-100 100,100,-100\nmoves 2"
+OUT_OF_RANGE = {
+    "chord": ("0", "91", "-1", "", "1.5", "9999999999"),
+    "snap": ("-1", "17", ""),
+    "pixel": ("0", "1001"),
+    "height": ("0", "32768"),
+    "width": ("9", "501"),
+    "charspace": ("-1", "501"),
+    "wordspace": ("-1", "501"),
+    "linespace": ("9", "501"),
+    "justify": ("middle", "", "LEFT"),
+    "mirror": ("true", "1"),
+    "flip": ("", "Yes"),
+    "text": ("",),
+}
 WORDS = [
     ([], 2, "usage"),
     ([""], 2, "usage"),
@@ -374,7 +488,7 @@ M2""",
     (CARVE + " --feed -1", 2, "usage"),
     (CARVE + " --limit=0", 2, "usage"),
     (CARVE + " --limit=32768", 2, "usage"),
-    (CARVE + " --form=dxf", 2, "usage"),
+    (CARVE + " --form=svg", 2, "usage"),
     (CARVE + " --pitch=0", 2, "usage"),
     (CARVE + " --pitch=32768", 2, "usage"),
     (CARVE + " --pitch=1.0", 2, "usage"),
@@ -442,7 +556,29 @@ M2""",
     (PROBE + " --limit=0", 2, "usage"),
     (PROBE + " --limit=32768", 2, "usage"),
     (PROBE + " --limit=999999999999999999999999", 2, "usage"),
-    (PROBE + " --form=dxf", 2, "usage"),
+    (PROBE + " --form=DXF", 2, "usage"),
+    (PROBE + " --form=dxf", 3, "input dxf pair 1 bad code"),
+    (PROBE + " --form=pbm", 3, "input pbm magic"),
+    (PROBE + " --form=cxf", 2, "usage"),
+    (PROBE + " --form=cxf --text=", 2, "usage"),
+    (PROBE + " --form=cxf --text=" + "a" * 201, 2, "usage"),
+    (PROBE + " --form=cxf --text=" + "\u00e4" * 200, 3, "input lay no glyph 0"),
+    (PROBE + " --form=cxf --text=-", 3, "input lay no glyph 0"),
+    (["flatten", "--drawing=d", "--form=cxf", "--text", " \n "], 0, None),
+    ([b"flatten", b"--drawing=d", b"--form=cxf", b"--text=\xff"], 8, None),
+    ("flatten --drawing=d", 0, SQUARE.decode()[:-1]),
+    ("flatten --drawing=c", 3, "input loops 0 syntax"),
+    ("flatten --drawing=nothing --form=pbm", 4, "absent drawing"),
+    ("flatten", 2, "usage"),
+    ("flatten --drawing=d --at=5,5", 2, "usage"),
+    ("flatten --drawing=d --bit=1/1", 2, "usage"),
+    ("flatten --drawing=d --code=c", 2, "usage"),
+    ("flatten --drawing=d --drawing=d", 2, "usage"),
+    ("flatten --form=loops --units=in10 --drawing=d", 2, "usage"),
+    # Options that a form doesn't use are checked, and change nothing.
+    ("flatten --drawing=d --chord=90 --snap=16 --pixel=1000 --text=x --height=32767 --width=10 --charspace=500 --wordspace=0 --linespace=500", 0, SQUARE.decode()[:-1]),
+    *((f"{FLATTEN} --{name}={value}", 2, "usage") for name, values in OUT_OF_RANGE.items() for value in values),
+    ("flatten --drawing=d --justify=center --mirror=yes --flip=yes --units=mm10", 0, SQUARE.decode()[:-1]),
     (PROBE + " --form=", 2, "usage"),
     (MOVES, 0, LISTED),
     ("moves --units mm100 --code c", 0, LISTED),
@@ -499,7 +635,7 @@ NAMES = [
 COPIES = ["two\nlines", "naïve ☃", "two words", "--code"]
 
 # Outputs that take nothing, for answers of each kind: the words.
-UNWRITTEN = [PROBE, MOVES, CHECK, CONTACTS, CARVE, CARVE.replace("=500", "=0"), "usage"]
+UNWRITTEN = [PROBE, MOVES, CHECK, CONTACTS, CARVE, FLATTEN, FLATTEN + " --form=pbm", CARVE.replace("=500", "=0"), "usage"]
 UNWRITTEN += ["moves --code=nothing", "moves --code=folder", "moves --code=d"]
 
 # Names that are read up to the limit, and how far that is.
@@ -507,16 +643,35 @@ DRAWING_LIMIT, CODE_LIMIT = 16_777_216, 536_870_912
 ENDLESS = {b"--drawing=/dev/": DRAWING_LIMIT, b"--code=/dev/zero": CODE_LIMIT}
 
 # Larger inputs, in pieces that are repeated: the words, the drawing, the code, the status, the text.
-RING = [(b"0,0 1,1 ", 65_535), (b"2,3 4,5\n", 1)]
+# One loop of as many points as there may be: a zigzag there, and one back above it.
+ZIGZAG = [b"%d,%d" % (x, x % 2) for x in range(-32_768, 32_768)] + [b"%d,%d" % (x, 9 + x % 2) for x in range(32_767, -32_769, -1)]
+RING = [(b" ".join(ZIGZAG) + b"\n", 1)]
 # Edges that a check has to compare with each move, since they are nearer than the bit's greatest radius.
-NEAR = [(b"-9999,-9999 9999,-9999 9999,9999 -9999,9999\n", 1), (b"0,0 1,1\n", 65_000)]
+HOLES = b"".join(b"%d,%d %d,%d %d,%d %d,%d\n" % (x, y, x + 2, y, x + 2, y + 2, x, y + 2) for y in range(0, 512, 4) for x in range(1000, 1508, 4))
+HOLE_EDGES = 4 * HOLES.count(b"\n")
+NEAR = [(b"-9999,-9999 9999,-9999 9999,9999 -9999,9999\n", 1), (HOLES, 1)]
 # The largest square.
 WHOLE = b"-32768,-32768 32767,-32768 32767,32767 -32768,32767\n"
+
+
+def within(count):
+    """So many squares within each other, the largest first."""
+    return b"".join(b"%d,%d %d,%d %d,%d %d,%d\n" % (a, a, b, a, b, b, a, b) for a, b in ((i - 32_768, 32_767 - i) for i in range(count)))
+
+
 
 # Four squares apart, which the step 4 divides into 8188 pieces a side.
 SPREAD_SQUARES = b"".join(
     b"%d,%d %d,%d %d,%d %d,%d\n" % (x, y, x + 32_752, y, x + 32_752, y + 32_752, x, y + 32_752) for x in (-32_768, 0) for y in (-32_768, 0)
 )
+
+
+def between(squares, triangles):
+    """So many small squares and triangles between them."""
+    corners = [b"-10,%d -6,%d -6,%d -10,%d\n"] * squares + [b"-10,%d -8,%d -10,%d\n"] * triangles
+    return b"".join(text % ((y, y, y + 4, y + 4) if text.count(b"%") == 4 else (y, y, y + 2)) for y, text in zip(range(9, 200, 9), corners))
+
+
 LARGE = [
     (PROBE, [(b"1", DRAWING_LIMIT)], [], 3, "input loops 0 syntax"),
     (PROBE, [(b"1", DRAWING_LIMIT + 1)], [], 3, "input too long drawing"),
@@ -529,25 +684,67 @@ LARGE = [
     (PROBE, [(SQUARE, 1), (b" ", DRAWING_LIMIT - 27)], [], 3, "input too long drawing"),
     (PROBE, [(b" ", DRAWING_LIMIT - 1), (b"5", 1)], [], 3, "input loops 16777215 syntax"),
     (PROBE, RING, [], 0, "depth 0"),
-    (PROBE, [*RING, (b"9,9 8,8\n", 1)], [], 3, "input loops 524288 too many"),
-    (PROBE, [(b"0,0 1,1\n", 65_536)], [], 0, "depth 0"),
+    (PROBE, [*RING, (b"9,9 8,8\n", 1)], [], 3, f"input loops {len(RING[0][0])} too many"),
+    (PROBE, [(b"0,0 1,1\n", 65_536)], [], 3, "input cross 0,1"),
+    (PROBE, [(b"0,0 1,1 ", 65_535), (b"2,3 4,5\n", 1)], [], 3, "input cross 0,1"),
+    (PROBE, [(HOLES, 1), (b"0,0 9,9 9,0 0,9\n", 1)], [], 3, f"input cross {HOLE_EDGES},{HOLE_EDGES + 2}"),
+    ("flatten --drawing=d", RING, [], 0, RING[0][0].decode()[:-1]),
     (PROBE, [(b"0,0 1,1\n", 65_537)], [], 3, "input loops 524288 too many"),
     (PROBE, [(b"0,0 1,1 ", 65_536), (b"9,9\n", 1)], [], 3, "input loops 524288 too many"),
-    (CHECK, [(b"0,0 1,1\n", 65_536)], [(DOWN, 1)], 1, "line 4 outside"),
+    (CHECK, [(b"0,0 1,1\n", 65_536)], [(DOWN, 1)], 3, "input cross 0,1"),
+    (CHECK, RING, [(DOWN, 1)], 1, "line 4 outside"),
     (CHECK.replace("200", "8191"), NEAR, [(b"X5Y5Z1\nZ-.01\n", 1), (b"X6Z-.9\nX5Z-.01\n", 50)], 0, "clear 101 moves"),
-    (CONTACTS.replace("250", "8"), [(WHOLE, 31)], [], 0, "30 123 8192/8192 none 0 -32768,-32768"),
-    (CONTACTS.replace("250", "8"), [(WHOLE, 33)], [], 3, "input too many contacts"),
-    (CONTACTS.replace("250", "7"), [(SQUARE, 1), (WHOLE, 33)], [], 3, "input step too fine 4"),
-    # Where no depth fits, each node is a chain, and the first one of a loop twice: 4 * 32,753 + 12 * 5, and one more.
-    (SPREAD, [(SPREAD_SQUARES, 1), (b"-10,9 -6,9 -6,13 -10,13\n", 12)], [], 0, "M2"),
-    (SPREAD, [(SPREAD_SQUARES, 1), (b"-10,9 -6,9 -6,13 -10,13\n", 11), (b"-10,0 -6,0\n", 2)], [], 3, "input too many chains"),
-    (CARVE.replace("500", "8"), [(WHOLE, 33)], [], 3, "input too many contacts"),
-    (CARVE.replace("500", "7"), [(SQUARE, 1), (WHOLE, 33)], [], 3, "input step too fine 4"),
+    (CONTACTS.replace("250", "8"), [(within(31), 1)], [], 0, "30 123 8185/8185 none 0 -32738,-32738"),
+    (CONTACTS.replace("250", "8"), [(within(33), 1)], [], 3, "input too many contacts"),
+    (CONTACTS.replace("250", "7"), [(SQUARE, 1), (within(33), 1)], [], 3, "input step too fine 4"),
+    # Where no depth fits, each node is a chain, and the first one of a loop twice: 4 * 32,753 + 12 * 5, and one more by 9 * 5 + 4 * 4.
+    (SPREAD, [(SPREAD_SQUARES + between(12, 0), 1)], [], 0, "M2"),
+    (SPREAD, [(SPREAD_SQUARES + between(9, 4), 1)], [], 3, "input too many chains"),
+    (CARVE.replace("500", "8"), [(within(33), 1)], [], 3, "input too many contacts"),
+    (CARVE.replace("500", "7"), [(SQUARE, 1), (within(33), 1)], [], 3, "input step too fine 4"),
     (MOVES, [], [(b"N1\n", 1_000_000), (b"Q", 1)], 3, "input code line 1000001 word"),
     (MOVES, [], [(b"(" + b"a" * 1022 + b")\n", 20_000)], 0, "moves 0"),
     (MOVES, [], [(b"X" + b"0" * 1023 + b"\n", 20_000)], 0, "moves 0"),
     (MOVES, [], [(b"G90" * 341 + b"\n", 20_000)], 0, "moves 0"),
     (MOVES, [], [(b"X0Y0Z1\n", 1), (b"X1\n", 300_000)], 0, "moves 300000"),
+]
+
+BEGIN, END = b"0\nSECTION\n2\nENTITIES\n", b"0\nENDSEC\n0\nEOF\n"
+LINE = b"0\nLINE\n10\n0\n20\n0\n11\n1\n21\n0\n"
+VERTEX = b"0\nVERTEX\n10\n0\n20\n0\n"
+IN_DXF, IN_CXF, IN_PBM = (f"{FLATTEN} {form}" for form in (DXF, CXF, PBM))
+# The outlines of every other column of the widest bitmap, for pixels of 4.
+STRIPES = "\n".join(f"{x + 4},32764 {x},32764 {x},0 {x + 4},0" for x in range(0, 32_764, 8))
+# Where the text isn't written here, its form is judged alone.
+LARGE += [
+    (IN_DXF, [(b"0", DRAWING_LIMIT)], [], 3, "input dxf pair 1 bad code"),
+    (IN_DXF, [(b"0\n", 1), (b"A", DRAWING_LIMIT - 2)], [], 3, "input dxf pair 2 unended"),
+    (IN_DXF, [(b"0", DRAWING_LIMIT + 1)], [], 3, "input too long drawing"),
+    (IN_DXF, [(b"999\n\n", DRAWING_LIMIT // 5)], [], 3, f"input dxf pair {DRAWING_LIMIT // 5 + 1} unended"),
+    (IN_DXF, [(BEGIN, 1), (b"0\nX\n", 4_000_000), (END, 1)], [], 0, "# skipped 4000000"),
+    (IN_DXF, [(BEGIN, 1), (LINE, 131_072), (END, 1)], [], 3, "input cross 0,1"),
+    (IN_DXF, [(BEGIN, 1), (LINE, 131_073), (END, 1)], [], 3, "input dxf pair 655363 too many"),
+    (IN_DXF, [(BEGIN, 1), (LINE, (DRAWING_LIMIT - len(BEGIN)) // len(LINE))], [], 3, "input dxf pair 655363 too many"),
+    (IN_DXF, [(BEGIN, 1), (LINE.replace(b"1\n21", b"0.001\n21"), 480_000), (END, 1)], [], 0, "# skipped 0"),
+    (IN_DXF, [(BEGIN + b"0\nPOLYLINE\n70\n1\n", 1), (VERTEX, 800_000), (b"0\nSEQEND\n" + END, 1)], [], 0, "# skipped 0"),
+    (IN_DXF, [(BEGIN + b"0\nPOLYLINE\n70\n64\n", 1), (VERTEX, 800_000), (b"0\nSEQEND\n" + END, 1)], [], 0, "# skipped 1"),
+    (IN_DXF, [(BEGIN + b"0\nLINE\n", 1), (b"10\n0\n", 3_000_000), (b"20\n0\n11\n0\n21\n0\n" + END, 1)], [], 0, "# skipped 0"),
+    (IN_CXF, [(b"x", DRAWING_LIMIT)], [], 3, "input lay no glyph 0"),
+    (IN_CXF, [(b"[I]" + b" " * (DRAWING_LIMIT - 3), 1)], [], 0, None),
+    (IN_CXF, [(FONT, 1), (b"[I]\n", 4_000_000)], [], 0, LETTER_I),
+    (IN_CXF, [(FONT, 1), (b"[a]\nL 0,0,1,1\n", 1_000_000)], [], 0, LETTER_I),
+    (IN_CXF, [(b"[I]\n", 1), (b"L 0,0,0,1\n", 1_600_000)], [], 3, "input lay too many"),
+    (IN_CXF.replace("=I", "=" + "I" * 200) + " --height=9", [(b"[I]\n", 1), (b"L 0,0,0,9\n", 1_600_000)], [], 3, "input lay too many"),
+    (IN_CXF + " --height=1", [(b"[I]\n", 1), (b"L 0,0,0,1\n", 1_600_000)], [], 0, None),
+    (IN_CXF + " --chord=1", [(b"[I]\n", 1), (b"A 0,0,0,0,0\n", 2_000)], [], 0, None),
+    (IN_PBM, [(b"P1 8191 2048\n", 1), (b"0", DRAWING_LIMIT - 13)], [], 0, None),
+    (IN_PBM, [(b"P1 8191 2048\n", 1), (b" ", DRAWING_LIMIT - 13)], [], 3, "input pbm short"),
+    (IN_PBM, [(b"P1 #", 1), (b"#", DRAWING_LIMIT - 4)], [], 3, "input pbm header"),
+    (IN_PBM + " --pixel=4", [(b"P4 8191 8191\n", 1), (b"\0", 8_387_584)], [], 0, None),
+    (IN_PBM + " --pixel=4", [(b"P4 8191 8191\n", 1), (b"\xff", 8_387_584)], [], 0, "32764,32764 0,32764 0,0 32764,0"),
+    (IN_PBM + " --pixel=4", [(b"P4 8191 8191\n", 1), (b"\xaa", 8_387_584)], [], 0, STRIPES),
+    (IN_PBM + " --pixel=1", [(b"P4 8191 8191\n", 1), ((b"\xaa" * 1024 + b"\x55" * 1024), 4095), (b"\xaa" * 1024, 1)], [], 3, "input pixels too many"),
+    (IN_PBM + " --pixel=128", [(b"P4 255 255\n", 1), (b"\xaa" * 32 + b"\x55" * 32, 127), (b"\xaa" * 32, 1)], [], 0, ...),
 ]
 
 # The largest inputs, likewise.
@@ -581,11 +778,13 @@ HUGE = [
     (MOVES, [], [FAR, (b"Z9\n", MOST_MOVES + 1)], 3, "input code line 8388610 too many"),
     (MOVES, [], [FAR, (b"Z9" + b" " * 61 + b"\n", MOST_MOVES - 1)], 0, "moves 8388607"),
     (CHECK, [(SQUARE, 1)], [FAR, (b"Z9\n", MOST_MOVES)], 0, "clear 8388608 moves"),
-    (CHECK, [(b"0,0 1,1\n", 65_536)], [FAR, (b"Z9" + b" " * 61 + b"\n", MOST_MOVES - 1)], 0, "clear 8388607 moves"),
+    (CHECK, RING, [FAR, (b"Z9" + b" " * 61 + b"\n", MOST_MOVES - 1)], 0, "clear 8388607 moves"),
     (MOVES, [], [FAR, (b"\n", 100_000_000), (b"Z-327.67\n", MOST_MOVES)], 0, "moves 8388608"),
     (CHECK.replace("200", "8191"), NEAR, [(b"X5Y5Z1\nZ-.01\n", 1), (b"X6Z-.9\nX5Z-.01\n", 2500)], 0, "clear 5001 moves"),
     ("moves --code=/dev/zero", [], [], 3, "input too long code"),
 ]
+
+DRAWN = [FLATTEN, PROBE, CONTACTS, CARVE + " --pitch=1000"]
 
 # Limits of the address space, in MiB, under which an answer may be the want of memory.
 SPACES = [*range(4, 40, 2), 48, 64, 96, 128]
@@ -595,7 +794,9 @@ SPACES = [*range(4, 40, 2), 48, 64, 96, 128]
 # there may be, in a check for each pair of a move and an edge, and in a report for each point and each row that a move may reach.
 MEBIBYTES, BYTES_A_BYTE, BYTES_A_MOVE, BYTES_A_CONTACT, BYTES_A_LINE, BYTES_A_WORD, MOST_MEBIBYTES = 32, 1, 80, 64, 100, 512, 1024
 SECONDS, SECONDS_A_MEBIBYTE, SECONDS_A_MOVE, SECONDS_A_CONTACT, SECONDS_A_NODE, SECONDS_A_PAIR = 2, 0.05, 2e-6, 1e-5, 3e-5, 2e-7
-SECONDS_A_POINT, SECONDS_A_ROW = 1e-7, 3e-6
+SECONDS_A_POINT, SECONDS_A_ROW, SECONDS_A_SEGMENT = 1e-7, 3e-6, 2e-5
+# How many bytes of a file there are for each segment at least, by its form.
+BYTES_OF_A_SEGMENT = {b"dxf": 6, b"cxf": 10, b"pbm": 0.06, b"loops": 4}
 
 # What changed inputs are made of: inputs to begin with, and what is put into them.
 DRAWING_BASES = [SQUARE, ANGLE, PLATE, b"0,0 1,1", b"-5,-5 999,-5 500,999\r\n0,0 9,0 0,9\r\n", b""]
@@ -616,7 +817,7 @@ WORD_BASES = {
     "covers": [COVER, COVER + " --pitch=77", COVER.replace("1/1", "2000/1999") + " --pitch=1000"],
     "contacts": [CONTACTS, CONTACTS.replace("250", "1"), CONTACTS + " --units=in100"],
     "carvings": [CARVE, CARVE.replace("500", "5"), CARVE.replace("1/1", "1/200") + " --units=in1000", FINE],
-    "words": [PROBE + " --limit=7", CONTACTS, MOVES + " --units=mm100", CHECK, APART, CARVE + " --safe=7 --feed=8", COVER + " --pitch=9"],
+    "words": [FLATTEN + " --snap=2 --chord=9", FLATTEN + " --form=cxf --text=a", PROBE + " --limit=7", CONTACTS, MOVES + " --units=mm100", CHECK, APART, CARVE + " --safe=7 --feed=8", COVER + " --pitch=9"],
 }
 ALPHABET = b"0123456789012345678901234567890123456789,,,,....---++     \t\t\r\n\n\n\n\n#GXYZMNgxyzFSP()%;=/\xe9"
 BREAKS = [b"\n", b"\r\n", b"\r", b" ", b"\t", b"\0", b"\xef\xbb\xbf", b"\v"]
@@ -624,7 +825,10 @@ DRAWING_TOKENS = b"0,0|-0,0|32767,-32768|32768,0|-|--1,1|+1,1|1e3,1|0x10,1|,|1,1
 DRAWING_TOKENS = [*DRAWING_TOKENS.split(b"|"), b"\n#", *BREAKS, *DRAWING_BASES]
 CODE_TOKENS = b"G0 G1 G2 G20 G21 G90 G91 G91.1 M2 M30 M6 X1 Y2.5 Z-1 Z2 X1.005 X327.68 Z-327.68 N10 F100 S1 P.1 O1 #1=2 [1]"
 CODE_TOKENS = [*CODE_TOKENS.split(), *b"/ ( ) (a) ; % . - + -- 1e3 0 99".split(), b"9" * 27, *BREAKS, *CODE_BASES]
+FORM_TOKENS = b"0|9|EOF|LINE|VERTEX|SEQEND|POLYLINE|70|-1|1e9|1e-9|[I]|[#61]|[|]|L 0,0,1,1|A 0,0,1,0,90|AR 1,1,1,9,0|P1|P4|8191|#"
+FORM_TOKENS = [*FORM_TOKENS.split(b"|"), b"9" * 27, b"9" * 28, *BREAKS]
 WORD_TOKENS = b"--|-|=|--help|-h|--limit=1|--limit|--units=mm10|--form=loops|--code=c|--at=1,1|--rmax=0|1/1|8191|32768|-5,5|,"
+WORD_TOKENS += b"|--form=dxf|--form=pbm|--text=\xe4|--text=b|--justify=left|--flip=yes|--mirror|--pixel=0|--width=10|flatten"
 WORD_TOKENS = [*WORD_TOKENS.split(b"|"), *b"--safe=1|--feed=1|--pitch=1| | --| - | -- |\xc3\xa9|\xff|\n|  |probe| d|0".split(b"|")]
 
 # Where the run isn't root's: the words, the status, the text.

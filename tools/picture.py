@@ -3,9 +3,10 @@
 
     python3 tools/picture.py --drawing=oak.loops --code=oak.ngc --bit=571/989 --rmax=150 --pitch=50 --out=oak.svg
 
-The options are those of `engrave_cli cover`, which is run for the points, as `moves` is for the path. The drawing is grey, what a move
-below the surface removes of it is blue, lifts and travels are dashed, and the points that are left are red. With `--png` a PNG file is
-written beside it, where rsvg-convert, inkscape or ImageMagick is installed.
+The options are those of `engrave_cli cover`, which is run for the points, as `moves` is for the path and `flatten` for the drawing; those
+that say what a drawing is, as `--form=cxf --text=OAK`, are handed on. The drawing is grey, what a move below the surface removes of it
+is blue, lifts and travels are dashed, and the points that are left are red. With `--png` a PNG file is written beside it, where
+rsvg-convert, inkscape or ImageMagick is installed.
 """
 
 import argparse
@@ -34,9 +35,9 @@ text { font: 13px sans-serif; fill: #222 }
 """
 
 
-def read_loops(path):
-    """The loops of a file in loops form that the program takes."""
-    lines = (line.strip() for line in path.read_text().splitlines())
+def read_loops(text):
+    """The loops of a text in loops form that the program writes."""
+    lines = (line.strip() for line in text.splitlines())
     return [[tuple(map(int, word.split(","))) for word in line.split()] for line in lines if line and not line.startswith("#")]
 
 
@@ -150,11 +151,12 @@ def draw_left(canvas, runs, pitch):
             canvas.disc(x, y, max(pitch / 6, 3 / canvas.scale))
 
 
-def picture(options, asked):
-    loops = read_loops(options.drawing)
+def picture(options, shape, asked):
+    drawing = [f"--drawing={options.drawing}", f"--units={options.units}", *shape]
+    loops = read_loops(asked("flatten", *drawing))
     moves = read_moves(asked("moves", f"--code={options.code}", f"--units={options.units}"))
-    geometry = [f"--drawing={options.drawing}", f"--bit={options.bit}", f"--rmax={options.rmax}"]
-    report = asked("cover", *geometry, f"--code={options.code}", f"--units={options.units}", f"--pitch={options.pitch}")
+    bit = [f"--bit={options.bit}", f"--rmax={options.rmax}"]
+    report = asked("cover", *drawing, *bit, f"--code={options.code}", f"--pitch={options.pitch}")
     runs, counts = read_runs(report)
     canvas = Canvas([p for loop in loops for p in loop] + [end[:2] for mv in moves for end in mv] or [(0, 0)])
     if loops:
@@ -188,7 +190,7 @@ def main():
     parser.add_argument("--out", type=Path, required=True, help="the SVG file")
     parser.add_argument("--png", action="store_true", help="a PNG file too")
     parser.add_argument("--program", type=Path, default=BUILT)
-    options = parser.parse_args()
+    options, shape = parser.parse_known_args()
 
     def asked(*words):
         """What the program writes; where it refuses, its line is the end."""
@@ -197,7 +199,7 @@ def main():
             sys.exit(f"{words[0]}: {ran.stdout.strip()}")
         return ran.stdout
 
-    options.out.write_text(picture(options, asked))
+    options.out.write_text(picture(options, shape, asked))
     if options.png:
         write_png(options.out)
 
