@@ -138,12 +138,14 @@ fn squares(alloc: Global, small: u32, triangles: u32) -> Result<String, Fail> {
          -32768,0 -16,0 -16,32752 -32768,32752\n0,0 32752,0 32752,32752 0,32752\n",
     )?;
     for number in 0..small {
-        let (low, high) = (9 + 20 * number, 13 + 20 * number);
+        let low = 9 + 20 * u64::from(number);
+        let high = low + 4;
         let square = format!(in alloc; "-10,{low} -6,{low} -6,{high} -10,{high}\n")?;
         drawing.push_str(square.as_str())?;
     }
     for number in 0..triangles {
-        let (low, high) = (1009 + 20 * number, 1011 + 20 * number);
+        let low = 1009 + 20 * u64::from(number);
+        let high = low + 2;
         let triangle = format!(in alloc; "-10,{low} -8,{low} -8,{high}\n")?;
         drawing.push_str(triangle.as_str())?;
     }

@@ -233,10 +233,10 @@ fn contacts_are_refused_in_their_order(rt: HostRuntime) -> Result<(), Fail> {
     }
     // Squares around one another: 132 edges of 8128 to 8192 pieces each.
     let mut many = String::new(rt.alloc());
-    for number in 0..33i32 {
-        let (low, high) = (8 * number - 32_768, 32_767 - 8 * number);
+    for number in 0..33u32 {
+        let (low, high) = (32_768 - 8 * number, 32_767 - 8 * number);
         let square = format!(in rt.alloc();
-            "{low},{low} {high},{low} {high},{high} {low},{high}\n"
+            "-{low},-{low} {high},-{low} {high},{high} -{low},{high}\n"
         )?;
         many.push_str(square.as_str())?;
     }
