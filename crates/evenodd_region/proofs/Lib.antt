@@ -8,6 +8,7 @@ pub mod Bounds
 pub mod Ways
 pub mod Discs
 pub mod Sparing
+pub mod TwoDrawings
 pub mod Tenths
 pub mod Scaled
 pub mod Reach

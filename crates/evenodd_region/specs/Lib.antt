@@ -7,3 +7,4 @@ pub mod Parity
 pub mod Ratios
 pub mod RowBits
 pub mod SafeMoves
+pub mod TwoDrawings

@@ -1,5 +1,5 @@
 -- Straight paths between rational points, and what the even-odd rule says along one that meets no edge.
-use Rattle.std.specs.Prelude.{◌≡◌, ◌↔◌, Bool, not, ◌&&◌, if◌then◌else◌, List, ◌+ℤ◌, ◌-ℤ◌, ◌*ℤ◌, int_lt}
+use Rattle.std.specs.Prelude.{◌≡◌, ◌↔◌, Bool, not, ◌&&◌, if◌then◌else◌, List, ◌-ℤ◌, ◌*ℤ◌, int_lt}
 use Rattle.plane_exact.specs.Plane.{GridPoint, RationalPoint, IsBetween, IsOnPath}
 use Rattle.plane_exact.specs.declared.point.Seg.{Seg}
 use Rattle.engrave_model.specs.Drawing.{edges_of}

@@ -2,6 +2,7 @@
 ghost use Rattle.evenodd_region.specs.Bounds.{InsideBoxLaw};
 ghost use Rattle.evenodd_region.specs.Parity.{EdgeParityLaw, ParityLaw};
 ghost use Rattle.evenodd_region.specs.SafeMoves.{SparingMoveLaw, SurfaceMoveLaw};
+ghost use Rattle.evenodd_region.specs.TwoDrawings.{TwoDrawingsLaw};
 
 /// For an edge that a straight path from v to w doesn't meet: the edge is counted at exactly one of v and w exactly where
 /// exactly one of its ends has the path to its left.
@@ -17,6 +18,11 @@ pub fn parity_law()
 /// Where all points of a drawing are in a box, each point that is inside is in it too, and on none of its sides.
 pub fn inside_box_law()
     ensures { InsideBoxLaw }
+{}
+
+/// Off both outlines, a point is inside two drawings put together exactly where it is inside exactly one of them.
+pub fn two_drawings_law()
+    ensures { TwoDrawingsLaw }
 {}
 
 /// A move that goes below the surface, removes no point of any edge, and is inside where it is first below the surface,

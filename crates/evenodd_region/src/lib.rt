@@ -2,7 +2,8 @@
 //!
 //! Its promise is in the clauses of `inside`, `inside_ratio` and `row_inside`, for points of the grid, between them, and for
 //! whole rows of them, and the laws of `law`: along a path that meets no edge, inside doesn't change; an inside point is
-//! strictly within the bounds of the drawing's points.
+//! strictly within the bounds of the drawing's points; off the outlines, a point is inside two drawings put together exactly
+//! where it is inside exactly one of them.
 #![tactic(auto)]
 
 mod bands;
