@@ -7,7 +7,7 @@ use Rattle.std.proofs.lemmas.Slice.Eq.{bytes_eq-Decides}
 use Rattle.clap.proofs.WalkLemmas.{both}
 use Rattle.job_words.specs.Plain.{GivenOption, given_value, has_needed, is_in_form, is_text_for, is_text_given}
 use Rattle.job_words.specs.Shape.{is_worded, lettering_of, shape_of, shape_options}
-use Rattle.job_words.specs.Values.{at_of, bit_of, charspace_of, chord_of, feed_of, form_named, form_of, height_of, justify_named, justify_of, letters_of, limit_of, linespace_of, number_of, or_default, pitch_of, pixel_of, point_of, rmax_of, safe_of, slope_of, snap_of, step_of, text_of, units_named, units_of, width_of, wordspace_of, yes_named, yes_of}
+use Rattle.job_words.specs.Values.{at_of, bit_of, charspace_of, chord_of, count_of, cross_named, cross_of, feed_of, form_named, form_of, height_of, justify_named, justify_of, letters_of, limit_of, linespace_of, number_of, or_default, over_of, pitch_of, pixel_of, pocket_named, pocket_of, point_of, rmax_of, safe_of, slope_of, snap_of, step_of, text_of, units_named, units_of, width_of, wordspace_of, yes_named, yes_of}
 use Rattle.job_words.specs.declared.request.FormWord.{FormWord}
 use Rattle.job_words.specs.declared.request.FormWord.TheVariants as form
 
@@ -109,6 +109,15 @@ module _ (given : List GivenOption) (in_form : list_all is_in_form given ≡ tru
   pub pitch_some : Is (pitch_of (value (codes "pitch")))
   pitch_some = default_some _ (number_of 1 32767) (value (codes "pitch")) (fits given in_form (codes "pitch"))
 
+  pub pocket_some : Is (pocket_of (value (codes "pocket")))
+  pocket_some = default_some _ pocket_named (value (codes "pocket")) (fits given in_form (codes "pocket"))
+
+  pub over_some : Is (over_of (value (codes "over")))
+  over_some = default_some _ (number_of 1 8191) (value (codes "over")) (fits given in_form (codes "over"))
+
+  pub count_some : Is (value (codes "count")) → Is (count_of (value (codes "count")))
+  count_some there = needed_some (number_of 1 80) (value (codes "count")) there (fits given in_form (codes "count"))
+
   chord_some : Is (chord_of (value (codes "chord")))
   chord_some = default_some _ (number_of 1 90) (value (codes "chord")) (fits given in_form (codes "chord"))
 
@@ -135,6 +144,9 @@ module _ (given : List GivenOption) (in_form : list_all is_in_form given ≡ tru
 
   justify_some : Is (justify_of (value (codes "justify")))
   justify_some = default_some _ (justify_named) (value (codes "justify")) (fits given in_form (codes "justify"))
+
+  cross_some : Is (cross_of (value (codes "cross")))
+  cross_some = default_some _ cross_named (value (codes "cross")) (fits given in_form (codes "cross"))
 
   yes_some : (name : List ℕ) → ((text : List ℕ) → value name ≡ Some text → Is (yes_named text)) → Is (yes_of (value name))
   yes_some name fit = default_some _ yes_named (value name) fit
@@ -170,5 +182,6 @@ module _ (given : List GivenOption) (in_form : list_all is_in_form given ≡ tru
       then_some _ (pixel_of (value (codes "pixel"))) pixel_some (λ pixel.
       then_some_is _ (text_of (value (codes "text"))) text_some (λ text text_is.
       then_some _ (lettering_of value) lettering_some (λ lettering.
+      then_some _ (cross_of (value (codes "cross"))) cross_some (λ cross.
       then_some _ (value (codes "drawing")) drawing.0 (λ drawing.
-      cond_some _ _ (is_worded_by form text (value (codes "text")) text_is (ap (λ o. is_text_for o (value (codes "text"))) (sym form_is) ∙ worded))))))))))
+      cond_some _ _ (is_worded_by form text (value (codes "text")) text_is (ap (λ o. is_text_for o (value (codes "text"))) (sym form_is) ∙ worded)))))))))))

@@ -13,4 +13,5 @@ pub mod ProbeLaw
 pub mod Requests
 pub mod Rows
 pub mod Steps
+mod TrialLaw
 pub mod Walks

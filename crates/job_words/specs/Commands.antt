@@ -9,6 +9,7 @@ use Rattle.job_words.specs.Commands.Cover.{cover}
 use Rattle.job_words.specs.Commands.Flatten.{flatten}
 use Rattle.job_words.specs.Commands.Moves.{moves}
 use Rattle.job_words.specs.Commands.Probe.{probe}
+use Rattle.job_words.specs.Commands.Trial.{trial}
 pub mod Carve
 pub mod Check
 pub mod Contacts
@@ -16,10 +17,11 @@ pub mod Cover
 pub mod Flatten
 pub mod Moves
 pub mod Probe
+pub mod Trial
 
 -- every command of the program
 abbrev pub commands : List Command
-commands = probe ∷ moves ∷ check ∷ contacts ∷ carve ∷ cover ∷ flatten ∷ []
+commands = probe ∷ moves ∷ check ∷ contacts ∷ carve ∷ cover ∷ flatten ∷ trial ∷ []
 
 -- the first of the commands that has this name
 abbrev pub named_among : List Command → List ℕ → Option Command

@@ -6,7 +6,7 @@ use Rattle.clap.specs.Lexer.{has_byte}
 use Rattle.job_words.specs.Command.{Command}
 use Rattle.job_words.specs.Options.{OptionRow, is_accepted, value_in}
 use Rattle.job_words.specs.Request.{request_of}
-use Rattle.job_words.specs.Values.{form_named, form_of, justify_named, letters_of, number_of, point_of, slope_of, units_named, yes_named}
+use Rattle.job_words.specs.Values.{cross_named, form_named, form_of, justify_named, letters_of, number_of, pocket_named, point_of, slope_of, units_named, yes_named}
 use Rattle.job_words.specs.declared.request.FormWord.{FormWord}
 use Rattle.job_words.specs.declared.request.FormWord.TheVariants.{Cxf}
 
@@ -69,6 +69,9 @@ is_in_form given =
     else if bytes_eq given.name (codes "safe") then is_some (number_of 1 32767 given.value)
     else if bytes_eq given.name (codes "feed") then is_some (number_of 1 10000 given.value)
     else if bytes_eq given.name (codes "pitch") then is_some (number_of 1 32767 given.value)
+    else if bytes_eq given.name (codes "pocket") then is_some (pocket_named given.value)
+    else if bytes_eq given.name (codes "over") then is_some (number_of 1 8191 given.value)
+    else if bytes_eq given.name (codes "count") then is_some (number_of 1 80 given.value)
     else if bytes_eq given.name (codes "form") then is_some (form_named given.value)
     else if bytes_eq given.name (codes "units") then is_some (units_named given.value)
     else if bytes_eq given.name (codes "chord") then is_some (number_of 1 90 given.value)
@@ -83,6 +86,7 @@ is_in_form given =
     else if bytes_eq given.name (codes "justify") then is_some (justify_named given.value)
     else if bytes_eq given.name (codes "mirror") then is_some (yes_named given.value)
     else if bytes_eq given.name (codes "flip") then is_some (yes_named given.value)
+    else if bytes_eq given.name (codes "cross") then is_some (cross_named given.value)
     else true
 
 -- a text is there where the form is a font's

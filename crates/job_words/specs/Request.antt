@@ -7,6 +7,7 @@ use Rattle.job_words.specs.Commands.Carve.{IsCarveInRange}
 use Rattle.job_words.specs.Commands.Contacts.{IsContactsInRange}
 use Rattle.job_words.specs.Commands.Cover.{IsCoverInRange}
 use Rattle.job_words.specs.Commands.Probe.{IsProbeInRange}
+use Rattle.job_words.specs.Commands.Trial.{IsTrialInRange}
 use Rattle.job_words.specs.Options.{is_accepted, value_in}
 use Rattle.job_words.specs.Shape.{IsShapeInRange}
 use Rattle.job_words.specs.declared.request.Request.{Request}
@@ -29,6 +30,7 @@ IsInRange (request.Probe shape at bit rmax limit) = IsShapeInRange shape × IsPr
 IsInRange (request.Moves code units) = Unit {0}
 IsInRange (request.Check shape code bit rmax) = IsShapeInRange shape × IsCone bit.0 bit.1 rmax
 IsInRange (request.Contacts shape step rmax) = IsShapeInRange shape × IsContactsInRange step rmax
-IsInRange (request.Carve shape bit rmax step limit safe feed pitch) = IsShapeInRange shape × IsCarveInRange bit rmax step limit safe feed pitch
+IsInRange (request.Carve shape bit rmax step limit safe feed pitch lines over) = IsShapeInRange shape × IsCarveInRange bit rmax step limit safe feed pitch over
 IsInRange (request.Cover shape code bit rmax pitch) = IsShapeInRange shape × IsCoverInRange bit rmax pitch
 IsInRange (request.Flatten shape) = IsShapeInRange shape
+IsInRange (request.Trial count) = IsTrialInRange count

@@ -4,7 +4,7 @@ use Rattle.std.specs.Str.{chars}
 use Rattle.plane_exact.specs.Cone.{IsFromOneTo}
 use Rattle.job_words.specs.Command.{needed, optional}
 use Rattle.job_words.specs.Options.{OptionRow}
-use Rattle.job_words.specs.Values.{charspace_of, chord_of, form_of, height_of, justify_of, linespace_of, pixel_of, snap_of, text_of, units_of, width_of, wordspace_of, yes_of}
+use Rattle.job_words.specs.Values.{charspace_of, chord_of, cross_of, form_of, height_of, justify_of, linespace_of, pixel_of, snap_of, text_of, units_of, width_of, wordspace_of, yes_of}
 use Rattle.job_words.specs.declared.request.DrawingWords.{DrawingWords}
 use Rattle.job_words.specs.declared.request.FormWord.{FormWord}
 use Rattle.job_words.specs.declared.request.FormWord.TheVariants.{Cxf}
@@ -15,7 +15,8 @@ unfoldable pub shape_options : List OptionRow
 shape_options =
     needed (codes "drawing") ∷ optional (codes "form") ∷ optional (codes "units") ∷ optional (codes "chord") ∷ optional (codes "snap")
     ∷ optional (codes "pixel") ∷ optional (codes "text") ∷ optional (codes "height") ∷ optional (codes "width") ∷ optional (codes "charspace")
-    ∷ optional (codes "wordspace") ∷ optional (codes "linespace") ∷ optional (codes "justify") ∷ optional (codes "mirror") ∷ optional (codes "flip") ∷ []
+    ∷ optional (codes "wordspace") ∷ optional (codes "linespace") ∷ optional (codes "justify") ∷ optional (codes "mirror") ∷ optional (codes "flip")
+    ∷ optional (codes "cross") ∷ []
 
 -- how a text is laid out, of the values of its options, where each of them is there
 unfoldable pub lettering_of : (List ℕ → Option (List ℕ)) → Option Lettering
@@ -50,7 +51,7 @@ is_worded form text = true
 unfoldable pub shape_of : (List ℕ → Option (List ℕ)) → Option DrawingWords
 shape_of value =
     option_and_then (λ form. option_and_then (λ units. option_and_then (λ chord. option_and_then (λ snap. option_and_then (λ pixel.
-    option_and_then (λ text. option_and_then (λ lettering. option_and_then (λ drawing.
+    option_and_then (λ text. option_and_then (λ lettering. option_and_then (λ cross. option_and_then (λ drawing.
     if is_worded form text
     then Some (record {
       drawing = drawing;
@@ -68,9 +69,11 @@ shape_of value =
       justify = lettering.justify;
       mirror = lettering.mirror;
       flip = lettering.flip;
+      cross = cross;
     })
     else None)
     (value (codes "drawing")))
+    (cross_of (value (codes "cross"))))
     (lettering_of value))
     (text_of (value (codes "text"))))
     (pixel_of (value (codes "pixel"))))

@@ -5,10 +5,14 @@ use Rattle.grid_num.specs.Whole.{whole_of, both, pair_of}
 use Rattle.grid_num.specs.declared.units.Units.{Units}
 use Rattle.grid_num.specs.declared.units.Units.TheVariants.{Mm10, Mm100, Mm1000, In100, In1000}
 use Rattle.plane_exact.specs.Plane.{GridPoint, is_coordinate}
+use Rattle.job_words.specs.declared.request.CrossWord.{CrossWord}
+use Rattle.job_words.specs.declared.request.CrossWord.TheVariants.{Refuse, Evenodd}
 use Rattle.job_words.specs.declared.request.FormWord.{FormWord}
 use Rattle.job_words.specs.declared.request.FormWord.TheVariants.{Loops, Dxf, Cxf, Pbm}
 use Rattle.job_words.specs.declared.request.JustifyWord.{JustifyWord}
 use Rattle.job_words.specs.declared.request.JustifyWord.TheVariants.{Left, Center, Right}
+use Rattle.job_words.specs.declared.request.PocketWord.{PocketWord}
+use Rattle.job_words.specs.declared.request.PocketWord.TheVariants.{NoPocket, X, Y, Both}
 use Rattle.job_words.specs.declared.request.YesNo.{YesNo}
 use Rattle.job_words.specs.declared.request.YesNo.TheVariants.{Yes, No}
 
@@ -56,6 +60,22 @@ justify_named text =
 -- yes or no
 abbrev pub yes_named : List ℕ → Option YesNo
 yes_named text = if bytes_eq text (codes "yes") then Some Yes else if bytes_eq text (codes "no") then Some No else None
+
+-- what becomes of a drawing whose edges cross or overlap
+abbrev pub cross_named : List ℕ → Option CrossWord
+cross_named text =
+    if bytes_eq text (codes "refuse") then Some Refuse
+    else if bytes_eq text (codes "evenodd") then Some Evenodd
+    else None
+
+-- how flat floors are milled
+abbrev pub pocket_named : List ℕ → Option PocketWord
+pocket_named text =
+    if bytes_eq text (codes "none") then Some NoPocket
+    else if bytes_eq text (codes "x") then Some X
+    else if bytes_eq text (codes "y") then Some Y
+    else if bytes_eq text (codes "both") then Some Both
+    else None
 
 -- a text of 1 to 200 characters
 abbrev pub letters_of : List ℕ → Option (List ℕ)
@@ -110,6 +130,18 @@ feed_of = or_default 500 (number_of 1 10000)
 abbrev pub pitch_of : Option (List ℕ) → Option ℕ
 pitch_of = or_default 10 (number_of 1 32767)
 
+-- `--pocket`, none where it isn't given
+abbrev pub pocket_of : Option (List ℕ) → Option PocketWord
+pocket_of = or_default NoPocket pocket_named
+
+-- `--over`, from 1 to 8191, and 50 where it isn't given
+abbrev pub over_of : Option (List ℕ) → Option ℕ
+over_of = or_default 50 (number_of 1 8191)
+
+-- `--count`, from 1 to 80
+abbrev pub count_of : Option (List ℕ) → Option ℕ
+count_of = option_and_then (number_of 1 80)
+
 -- `--form`, loops where it isn't given
 abbrev pub form_of : Option (List ℕ) → Option FormWord
 form_of = or_default Loops form_named
@@ -161,3 +193,7 @@ justify_of = or_default Left justify_named
 -- `--mirror` and `--flip`, no where they aren't given
 abbrev pub yes_of : Option (List ℕ) → Option YesNo
 yes_of = or_default No yes_named
+
+-- `--cross`, refuse where it isn't given
+abbrev pub cross_of : Option (List ℕ) → Option CrossWord
+cross_of = or_default Refuse cross_named

@@ -7,3 +7,4 @@ pub mod cover;
 pub mod flatten;
 pub mod moves;
 pub mod probe;
+pub mod trial;

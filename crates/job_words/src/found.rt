@@ -2,12 +2,13 @@
 ghost use Rattle.std.specs.Prelude.{◌≡◌, ◌≤◌, IfOk, IfSome, Some, None, Err, codes};
 ghost use Rattle.clap.specs.Words.{first_value, found_of};
 ghost use Rattle.plane_exact.specs.Cone.{IsFromOneTo};
-ghost use Rattle.job_words.specs.Values.{at_of, bit_of, rmax_of, step_of, limit_of, safe_of, feed_of, pitch_of, number_of, or_default, units_of};
+ghost use Rattle.job_words.specs.Values.{at_of, bit_of, count_of, rmax_of, step_of, limit_of, safe_of, feed_of, over_of, pitch_of, pocket_of, number_of, or_default, units_of};
 
 use crate::fault::WordsFault;
 use crate::options::CommandOption;
+use crate::request::PocketWord;
 use crate::text::Text;
-use crate::values::{read_number, read_point, read_slope, read_units};
+use crate::values::{read_number, read_pocket, read_point, read_slope, read_units};
 use clap::ArgMatches;
 use grid_num::Units;
 use plane_exact::Point;
@@ -51,6 +52,21 @@ pub const FEED: CommandOption = CommandOption {
 pub const PITCH: CommandOption = CommandOption {
     name: "pitch",
     required: false,
+};
+
+pub const POCKET: CommandOption = CommandOption {
+    name: "pocket",
+    required: false,
+};
+
+pub const OVER: CommandOption = CommandOption {
+    name: "over",
+    required: false,
+};
+
+pub const COUNT: CommandOption = CommandOption {
+    name: "count",
+    required: true,
 };
 
 pub const UNITS: CommandOption = CommandOption {
@@ -120,6 +136,31 @@ pub fn pitch_in(found: &ArgMatches) -> Option<u32>
     ensures range { IfSome result (IsFromOneTo 32767) }
 {
     number_in(found, "pitch", 10, 1, 32_767)
+}
+
+/// No pocket where the option isn't given.
+pub fn pocket_in(found: &ArgMatches) -> Option<PocketWord>
+    ensures { result ≡ pocket_of (first_value (found_of found.now) (codes "pocket")) }
+{
+    match found.get_str("pocket") {
+        Some(text) => read_pocket(text),
+        None => Some(PocketWord::NoPocket),
+    }
+}
+
+/// 50 where the option isn't given.
+pub fn over_in(found: &ArgMatches) -> Option<u32>
+    ensures value { result ≡ over_of (first_value (found_of found.now) (codes "over")) }
+    ensures range { IfSome result (IsFromOneTo 8191) }
+{
+    number_in(found, "over", 50, 1, 8191)
+}
+
+pub fn count_in(found: &ArgMatches) -> Option<u32>
+    ensures value { result ≡ count_of (first_value (found_of found.now) (codes "count")) }
+    ensures range { IfSome result (IsFromOneTo 80) }
+{
+    read_number(found.get_str("count")?, 1, 80)
 }
 
 /// A number from the least to the most, or the default where the option isn't given.

@@ -28,6 +28,28 @@ pub enum JustifyWord {
     Right,
 }
 
+/// What becomes of a drawing whose edges cross or overlap.
+#[derive(Clone, Copy, Debug, PartialEq, Eq)]
+pub enum CrossWord {
+    /// It is refused.
+    Refuse,
+    /// It is taken by the even-odd rule.
+    Evenodd,
+}
+
+/// How the flat floors that the depth limit leaves are milled.
+#[derive(Clone, Copy, Debug, PartialEq, Eq)]
+pub enum PocketWord {
+    /// Not at all.
+    NoPocket,
+    /// By rows along x.
+    X,
+    /// By columns along y.
+    Y,
+    /// By rows along x, and by columns along y.
+    Both,
+}
+
 /// Yes or no.
 #[derive(Clone, Copy, Debug, PartialEq, Eq)]
 pub enum YesNo {
@@ -65,6 +87,8 @@ pub struct DrawingWords {
     pub mirror: YesNo,
     /// Whether top and bottom are.
     pub flip: YesNo,
+    /// Whether it is refused where its edges cross or overlap.
+    pub cross: CrossWord,
 }
 
 /// A command with the values of its options.
@@ -122,6 +146,10 @@ pub enum Request {
         feed: u32,
         /// The distance of the report's points in each direction, in grid units, from 1 to 32,767.
         pitch: u32,
+        /// Which way the flat floors that the depth limit leaves are milled, if at all.
+        pocket: PocketWord,
+        /// The distance of the rows or columns by which they are, in grid units, from 1 to 8191.
+        over: u32,
     },
     /// What a G-code program leaves uncut of a drawing.
     Cover {
@@ -138,5 +166,10 @@ pub enum Request {
     /// The drawing in loops form.
     Flatten {
         shape: DrawingWords,
+    },
+    /// A trial of the whole program on a drawing that it makes itself.
+    Trial {
+        /// The number of cells of that drawing, from 1 to 80.
+        count: u32,
     },
 }

@@ -5,14 +5,14 @@ ghost use Rattle.clap.specs.Words.{first_value, found_of};
 ghost use Rattle.plane_exact.specs.Cone.{IsFromOneTo};
 ghost use Rattle.job_words.specs.Options.{row_of};
 ghost use Rattle.job_words.specs.Shape.{IsFromTo, IsLetteringInRange, IsShapeInRange, is_worded, lettering_of, shape_of, shape_options};
-ghost use Rattle.job_words.specs.Values.{charspace_of, chord_of, form_of, height_of, justify_of, linespace_of, pixel_of, snap_of, text_of, width_of, wordspace_of, yes_of};
+ghost use Rattle.job_words.specs.Values.{charspace_of, chord_of, cross_of, form_of, height_of, justify_of, linespace_of, pixel_of, snap_of, text_of, width_of, wordspace_of, yes_of};
 
 use crate::fault::WordsFault;
 use crate::found::{UNITS, number_in, text_in, units_in};
 use crate::options::CommandOption;
-use crate::request::{DrawingWords, FormWord, JustifyWord, YesNo};
+use crate::request::{CrossWord, DrawingWords, FormWord, JustifyWord, YesNo};
 use crate::text::Text;
-use crate::values::{read_form, read_justify, read_letters, read_yes};
+use crate::values::{read_cross, read_form, read_justify, read_letters, read_yes};
 use clap::ArgMatches;
 use std::alloc::Global;
 
@@ -86,9 +86,14 @@ const FLIP: CommandOption = CommandOption {
     required: false,
 };
 
-static OPTIONS: [CommandOption; 15] = [
+const CROSS: CommandOption = CommandOption {
+    name: "cross",
+    required: false,
+};
+
+static OPTIONS: [CommandOption; 16] = [
     DRAWING, FORM, UNITS, CHORD, SNAP, PIXEL, TEXT, HEIGHT, WIDTH, CHARSPACE, WORDSPACE, LINESPACE,
-    JUSTIFY, MIRROR, FLIP,
+    JUSTIFY, MIRROR, FLIP, CROSS,
 ];
 
 /// The options that say which drawing a command is about.
@@ -127,6 +132,7 @@ pub fn shape_in(alloc: Global, found: &ArgMatches) -> Result<DrawingWords, Words
     let pixel = pixel_in(found).ok_or(WordsFault::Usage)?;
     let text = letters_in(alloc, found)?;
     let lettering = lettering_in(found)?;
+    let cross = cross_in(found).ok_or(WordsFault::Usage)?;
     let drawing = text_in(alloc, found, "drawing")?;
     if !has_text(form, &text) {
         return Err(WordsFault::Usage);
@@ -147,6 +153,7 @@ pub fn shape_in(alloc: Global, found: &ArgMatches) -> Result<DrawingWords, Words
         justify: lettering.justify,
         mirror: lettering.mirror,
         flip: lettering.flip,
+        cross,
     })
 }
 
@@ -294,5 +301,15 @@ fn yes_in(found: &ArgMatches, name: &str) -> Option<YesNo>
     match found.get_str(name) {
         Some(text) => read_yes(text),
         None => Some(YesNo::No),
+    }
+}
+
+/// Refused where the option isn't given.
+fn cross_in(found: &ArgMatches) -> Option<CrossWord>
+    ensures { result ≡ cross_of (first_value (found_of found.now) (codes "cross")) }
+{
+    match found.get_str("cross") {
+        Some(text) => read_cross(text),
+        None => Some(CrossWord::Refuse),
     }
 }

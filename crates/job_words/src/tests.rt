@@ -7,6 +7,7 @@ mod cover;
 mod flatten;
 mod moves;
 mod probe;
+mod trial;
 
 use crate::fault::WordsFault;
 use crate::request::{DrawingWords, Request};
@@ -31,7 +32,7 @@ fn shape_text(alloc: Global, shape: &DrawingWords) -> Result<String, AllocError>
     format!(in alloc; "{drawing} {form:?} {units:?}")
 }
 
-/// The words of a text as text.
+/// The words of a text, and that of edges that cross, as text.
 fn lettering_text(alloc: Global, shape: &DrawingWords) -> Result<String, AllocError> {
     let letters = match &shape.text {
         Some(text) => text.as_str(),
@@ -40,8 +41,9 @@ fn lettering_text(alloc: Global, shape: &DrawingWords) -> Result<String, AllocEr
     let (height, width) = (shape.height, shape.width);
     let (charspace, wordspace, linespace) = (shape.charspace, shape.wordspace, shape.linespace);
     let (justify, mirror, flip) = (shape.justify, shape.mirror, shape.flip);
+    let cross = shape.cross;
     format!(in alloc;
-        "{letters} {height} {width} {charspace} {wordspace} {linespace} {justify:?} {mirror:?} {flip:?}"
+        "{letters} {height} {width} {charspace} {wordspace} {linespace} {justify:?} {mirror:?} {flip:?} {cross:?}"
     )
 }
 
@@ -96,10 +98,14 @@ fn text_of_request(alloc: Global, request: &Request) -> Result<String, AllocErro
             safe,
             feed,
             pitch,
+            pocket,
+            over,
         } => {
             let shape = shape_text(alloc, shape)?;
             let (sn, sd) = *bit;
-            format!(in alloc; "{shape} {sn}/{sd} {rmax} {step} {limit} {safe} {feed} {pitch}")
+            format!(in alloc;
+                "{shape} {sn}/{sd} {rmax} {step} {limit} {safe} {feed} {pitch} {pocket:?} {over}"
+            )
         }
         Request::Cover {
             shape,
@@ -119,6 +125,7 @@ fn text_of_request(alloc: Global, request: &Request) -> Result<String, AllocErro
             let lettering = lettering_text(alloc, shape)?;
             format!(in alloc; "{text} {chord} {snap} {pixel} {lettering}")
         }
+        Request::Trial { count } => format!(in alloc; "{count}"),
     }
 }
 
@@ -132,6 +139,7 @@ fn lines_ask_for_their_values(rt: HostRuntime) -> Result<(), Fail> {
         flatten::LINES.as_slice(),
         moves::LINES.as_slice(),
         probe::LINES.as_slice(),
+        trial::LINES.as_slice(),
     ] {
         for (line, want) in lines {
             let text = text_of_line(rt.alloc(), line)?;

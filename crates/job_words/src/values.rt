@@ -2,9 +2,9 @@
 ghost use Rattle.std.specs.Prelude.{◌≡◌, ◌≤◌, IfNone, IfSome, None, Some, length};
 ghost use Rattle.std.specs.Str.{chars};
 ghost use Rattle.plane_exact.specs.Cone.{IsFromOneTo};
-ghost use Rattle.job_words.specs.Values.{point_of, slope_of, within, number_of, form_named, justify_named, letters_of, units_named, yes_named};
+ghost use Rattle.job_words.specs.Values.{point_of, slope_of, within, number_of, cross_named, form_named, justify_named, letters_of, pocket_named, units_named, yes_named};
 
-use crate::request::{FormWord, JustifyWord, YesNo};
+use crate::request::{CrossWord, FormWord, JustifyWord, PocketWord, YesNo};
 use grid_num::{Units, read_whole, read_whole_pair};
 use plane_exact::Point;
 
@@ -106,6 +106,36 @@ pub fn read_yes(text: &str) -> Option<YesNo>
         Some(YesNo::Yes)
     } else if text == "no" {
         Some(YesNo::No)
+    } else {
+        None
+    }
+}
+
+/// `refuse` or `evenodd`.
+pub fn read_cross(text: &str) -> Option<CrossWord>
+    ensures { result ≡ cross_named text.now }
+{
+    if text == "refuse" {
+        Some(CrossWord::Refuse)
+    } else if text == "evenodd" {
+        Some(CrossWord::Evenodd)
+    } else {
+        None
+    }
+}
+
+/// `none`, `x`, `y` or `both`.
+pub fn read_pocket(text: &str) -> Option<PocketWord>
+    ensures { result ≡ pocket_named text.now }
+{
+    if text == "none" {
+        Some(PocketWord::NoPocket)
+    } else if text == "x" {
+        Some(PocketWord::X)
+    } else if text == "y" {
+        Some(PocketWord::Y)
+    } else if text == "both" {
+        Some(PocketWord::Both)
     } else {
         None
     }

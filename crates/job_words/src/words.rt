@@ -2,7 +2,7 @@
 ghost use Rattle.std.specs.Prelude.{◌≡◌, IfOk, Some, None, Err, map, string_bytes};
 ghost use Rattle.job_words.specs.Request.{request_of, IsInRange};
 
-use crate::commands::{carve, check, contacts, cover, flatten, moves, probe};
+use crate::commands::{carve, check, contacts, cover, flatten, moves, probe, trial};
 use crate::fault::WordsFault;
 use crate::request::Request;
 use std::alloc::Global;
@@ -35,6 +35,8 @@ pub fn read_words(alloc: Global, words: &[String]) -> Result<Request, WordsFault
         cover::read(alloc, words)
     } else if name == "flatten" {
         flatten::read(alloc, words)
+    } else if name == "trial" {
+        trial::read(alloc, words)
     } else {
         Err(WordsFault::Usage)
     }

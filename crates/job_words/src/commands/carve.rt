@@ -8,8 +8,8 @@ ghost use Rattle.job_words.specs.Request.{IsInRange, command_request};
 
 use crate::fault::WordsFault;
 use crate::found::{
-    BIT, FEED, LIMIT, PITCH, RMAX, SAFE, STEP, bit_in, feed_in, limit_in, pitch_in, rmax_in,
-    safe_in, step_in,
+    BIT, FEED, LIMIT, OVER, PITCH, POCKET, RMAX, SAFE, STEP, bit_in, feed_in, limit_in, over_in,
+    pitch_in, pocket_in, rmax_in, safe_in, step_in,
 };
 use crate::options::{CommandOption, match_words};
 use crate::request::Request;
@@ -17,7 +17,7 @@ use crate::shape::{of_drawing, shape_in};
 use clap::ArgMatches;
 use std::alloc::Global;
 
-static OWN: [CommandOption; 7] = [BIT, RMAX, STEP, LIMIT, SAFE, FEED, PITCH];
+static OWN: [CommandOption; 9] = [BIT, RMAX, STEP, LIMIT, SAFE, FEED, PITCH, POCKET, OVER];
 
 #[tactic(auto, unfolding(crate::specs::Commands::Carve::carve_options))]
 fn own() -> &'static [CommandOption]
@@ -50,6 +50,8 @@ fn read_values(alloc: Global, found: &ArgMatches) -> Result<Request, WordsFault>
     let safe = safe_in(found).ok_or(WordsFault::Usage)?;
     let feed = feed_in(found).ok_or(WordsFault::Usage)?;
     let pitch = pitch_in(found).ok_or(WordsFault::Usage)?;
+    let pocket = pocket_in(found).ok_or(WordsFault::Usage)?;
+    let over = over_in(found).ok_or(WordsFault::Usage)?;
     let shape = shape_in(alloc, found)?;
     Ok(Request::Carve {
         shape,
@@ -60,5 +62,7 @@ fn read_values(alloc: Global, found: &ArgMatches) -> Result<Request, WordsFault>
         safe,
         feed,
         pitch,
+        pocket,
+        over,
     })
 }
