@@ -10,10 +10,10 @@ use Rattle.plane_exact.specs.Plane.{rational}
 use Rattle.plane_exact.specs.declared.moves.Move.{Move}
 use Rattle.engrave_model.specs.Removal.{Removes}
 use Rattle.evenodd_region.specs.RowBits.{IsSetIn, bit_in, is_between, point_of_row}
+use Rattle.depth_rule.proofs.Multiples.{natural_of}
 use Rattle.coverage_report.specs.Cuts.{AreBelow, IsFilled, IsRowCutBy}
 use Rattle.swept_move.specs.Row.{IsRowCut, IsRowSpared}
 use Rattle.coverage_report.specs.Rows.{PointRow}
-use Rattle.coverage_report.proofs.Ticks.{natural_of}
 
 -- ---- how many places are below a bound
 

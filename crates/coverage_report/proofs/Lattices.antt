@@ -4,9 +4,10 @@ use Rattle.std.proofs.Common.{◌≡◌, ℕ, ◌<◌, ◌≤◌, length, refl, 
 use Rattle.std.proofs.lemmas.Int.{ints}
 use Rattle.plane_exact.specs.Plane.{GridPoint, IsOnGrid}
 use Rattle.evenodd_region.specs.Bounds.{IsBoxOf, IsInBox, points_of}
-use Rattle.coverage_report.specs.Lattices.{AreTicks, IsBoxPoint, IsInRows, IsLatticeIn, IsLatticeOf, IsPointLattice, PointLattice}
+use Rattle.depth_rule.specs.Ticks.{AreTicks}
+use Rattle.depth_rule.proofs.Multiples.{IsTick, first_on, last_on, tick_above, tick_multiple, tick_of, tick_under}
+use Rattle.coverage_report.specs.Lattices.{IsBoxPoint, IsInRows, IsLatticeIn, IsLatticeOf, IsPointLattice, PointLattice}
 use Rattle.coverage_report.specs.Points.{IsReportPoint}
-use Rattle.coverage_report.proofs.Ticks.{IsTick, first_on, last_on, tick_above, tick_multiple, tick_of, tick_under}
 
 -- ---- of a box
 

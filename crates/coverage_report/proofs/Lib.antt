@@ -12,4 +12,3 @@ pub mod RowPoints
 pub mod RunsFrom
 pub mod SetCounts
 pub mod TakenRows
-pub mod Ticks

@@ -1,19 +1,11 @@
 -- The points of a report as a lattice: rows upwards, at the pitch of a report, each with the same columns.
-use Rattle.std.specs.Prelude.{◌≡◌, ◌↔◌, ℕ, ◌-◌, ◌*◌, ◌<◌, ◌≤◌, List, ℤ, pos, ◌+ℤ◌, ◌<ℤ◌, ◌≤ℤ◌}
+use Rattle.std.specs.Prelude.{◌≡◌, ◌↔◌, ℕ, ◌-◌, ◌*◌, ◌<◌, ◌≤◌, List, ℤ, pos, ◌+ℤ◌}
 use Rattle.plane_exact.specs.Plane.{GridPoint, IsCoordinate}
 use Rattle.evenodd_region.specs.Bounds.{IsInBox}
 use Rattle.evenodd_region.specs.RowBits.{point_of_row}
-use Rattle.coverage_report.specs.Points.{IsMultiple, IsReportPoint}
+use Rattle.depth_rule.specs.Ticks.{IsMultiple}
+use Rattle.coverage_report.specs.Points.{IsReportPoint}
 use Rattle.coverage_report.specs.Rows.{PointRow}
-
--- so many multiples of the pitch, from `first` on, are those from `low` to `high`
-pub record AreTicks (low high : ℤ) (pitch : ℕ) (first : ℤ) (count : ℕ) : Type 0 where
-  pub multiple : IsMultiple pitch first
-  pub above : low ≤ℤ first
-  pub next : first <ℤ (low +ℤ pos pitch)
-  pub some : 1 ≤ count
-  pub last : (first +ℤ pos ((count - 1) * pitch)) ≤ℤ high
-  pub behind : high <ℤ (first +ℤ pos (count * pitch))
 
 -- rows of points at this pitch, to the right and upwards from (x, y) on
 pub record PointLattice : Type 0 where

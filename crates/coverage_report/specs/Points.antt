@@ -1,5 +1,5 @@
 -- The points of a report: which there are, which are inside the drawing, which of these no move removes, and how many.
-use Rattle.std.specs.Prelude.{◌≡◌, ◌⊎◌, ℕ, List, length, All, AllPairs, Any, Contains, ℤ, pos, ◌*ℤ◌, ◌<ℤ◌}
+use Rattle.std.specs.Prelude.{◌≡◌, ◌⊎◌, ℕ, List, length, All, AllPairs, Any, Contains, ◌<ℤ◌}
 use Rattle.plane_exact.specs.Cone.{Cone}
 use Rattle.plane_exact.specs.Plane.{GridPoint, rational}
 use Rattle.plane_exact.specs.declared.moves.LineMove.{LineMove}
@@ -7,11 +7,7 @@ use Rattle.engrave_model.specs.Drawing.{edges_of}
 use Rattle.engrave_model.specs.Inside.{IsInside}
 use Rattle.engrave_model.specs.Removal.{Removes}
 use Rattle.evenodd_region.specs.Bounds.{IsBoxOf, IsInBox, points_of}
-
--- z is a multiple of the pitch
-pub record IsMultiple (pitch : ℕ) (z : ℤ) : Type 0 where
-  pub times : ℤ
-  pub is : z ≡ times *ℤ pos pitch
+use Rattle.depth_rule.specs.Ticks.{IsMultiple}
 
 -- p is in the drawing's bounding box, its sides among it, and both its coordinates are multiples of the pitch
 pub record IsReportPoint (loops : List (List GridPoint)) (pitch : ℕ) (p : GridPoint) : Type 0 where

@@ -1,13 +1,12 @@
 // The points of a report, row by row.
-ghost use Rattle.std.specs.Prelude.{◌≡◌, ◌*◌, ℤ, ◌<ℤ◌, ◌≤ℤ◌, ◌+ℤ◌, pos, MatchOption};
+ghost use Rattle.std.specs.Prelude.{◌≡◌, ◌*◌, MatchOption};
 ghost use Rattle.plane_exact.specs.Cone.{IsFromOneTo};
-ghost use Rattle.plane_exact.specs.Plane.{GridPoint, IsCoordinate};
-ghost use Rattle.coverage_report.specs.Lattices.{AreTicks, IsBoxPoint, IsLatticeIn};
-ghost use Rattle.coverage_report.specs.Points.{IsMultiple};
+ghost use Rattle.plane_exact.specs.Plane.{GridPoint};
+ghost use Rattle.coverage_report.specs.Lattices.{IsBoxPoint, IsLatticeIn};
 
 use crate::cover::MOST_PITCH;
 use crate::row::Row;
-use depth_rule::Bounds;
+use depth_rule::{Bounds, ticks_between};
 use std::marker::Model;
 
 /// Rows of points of the grid, at least one, each with the same columns: from (x, y) on to the right and upwards at this pitch, in
@@ -88,39 +87,4 @@ pub fn lattice_of(bounds: Bounds, pitch: u32) -> Option<Lattice>
         columns: across.count,
         rows: up.count,
     })
-}
-
-// So many multiples of a pitch, from the first on.
-#[derive(Clone, Copy)]
-struct Ticks {
-    first: i32,
-    count: u32,
-}
-
-// The multiples of the pitch from `low` to `high`; None where there is none.
-fn ticks_between(low: i32, high: i32, pitch: u32) -> Option<Ticks>
-    requires low { IsCoordinate low }
-    requires high { IsCoordinate high }
-    requires pitch { IsFromOneTo MOST_PITCH pitch }
-    ensures { MatchOption result ((z : ℤ) → IsMultiple pitch z → low ≤ℤ z → ¬ (z ≤ℤ high)) (λ ticks. AreTicks low high pitch ticks.first ticks.count) }
-{
-    let first = first_from(low, pitch);
-    if first > high {
-        return None;
-    }
-    Some(Ticks {
-        first,
-        count: (high - first) as u32 / pitch + 1,
-    })
-}
-
-// The first multiple of the pitch at or above `low`.
-fn first_from(low: i32, pitch: u32) -> i32
-    requires low { IsCoordinate low }
-    requires pitch { IsFromOneTo MOST_PITCH pitch }
-    ensures multiple { IsMultiple pitch result }
-    ensures above { low ≤ℤ result }
-    ensures next { result <ℤ (low +ℤ pos pitch) }
-{
-    low + (-low).rem_euclid(pitch as i32)
 }

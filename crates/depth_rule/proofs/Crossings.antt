@@ -1,7 +1,7 @@
 -- Edges that cross have boxes that meet, and the first edge that crosses a given one.
 use Rattle.std.specs.Prelude.{int_le, if◌then◌else◌, slice_index_or}
 use Rattle.std.specs.List.{slice_get}
-use Rattle.std.proofs.Common.{◌≡◌, inl, inr, Bool, true, false, refl, ℕ, List, [], ◌∷◌, Option, None, Some, ℤ, pos, neg_ℤ, ◌+ℤ◌, ◌*ℤ◌, ◌≤ℤ◌, ◌<ℤ◌, arith, subst}
+use Rattle.std.proofs.Common.{◌≡◌, inl, inr, Bool, true, false, refl, ℕ, List, [], ◌∷◌, Option, None, Some, ℤ, pos, neg_ℤ, ◌+ℤ◌, ◌≤ℤ◌, ◌<ℤ◌, arith, subst}
 use Rattle.std.proofs.lemmas.Int.{ints}
 use Rattle.std.proofs.lemmas.Option.{get_or_from_slice_get, slice_get_within}
 use Rattle.integer_algebra.proofs.Ring.{ring, V, M, ◌⊕◌, ◌⊗◌}

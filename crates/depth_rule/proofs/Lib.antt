@@ -3,9 +3,12 @@ pub mod Ahead
 pub mod Aside
 pub mod Bisection
 pub mod Boxes
+pub mod Clearances
 pub mod Crossings
 pub mod Deepening
+pub mod DeepestDepths
 pub mod Leasts
 pub mod Mets
+pub mod Multiples
 pub mod Safety
 pub mod Exact

@@ -10,12 +10,12 @@ ghost use Rattle.swept_move.specs.Clear.{PassesEdge};
 ghost use Rattle.depth_rule.specs.Around.{IsAround};
 
 use lane_kernels::Rect;
-use plane_exact::{Bit, MOST_RADIUS, Move, Point};
+use plane_exact::{Bit, MOST_DEPTH, MOST_RADIUS, Move, Point};
 use swept_move::reach_of;
 
-/// A box round the disc that the bit cuts over `p` at the depth `z`.
+/// A box round the disc that the bit cuts over `p` at the depth `z`, at most 32,767 grid units, however wide the bit is there.
 pub fn disc_box(p: Point, bit: &Bit, z: u32) -> Rect
-    requires { bit.now.sn * z ≤ bit.now.sd * bit.now.rmax }
+    requires { z ≤ MOST_DEPTH }
     ensures { (e : Seg) → is_met result (box_of e) ≡ false → IsEdgeClear bit.now p z e }
 {
     let radius = (bit.sn() * z).div_ceil(bit.sd()) as i32;

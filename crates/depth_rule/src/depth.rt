@@ -1,8 +1,9 @@
 // The greatest depth that the bit may have at a point of a drawing.
-ghost use Rattle.std.specs.Prelude.{◌≡◌, ◌↔◌, ◌*◌, ◌≤◌, ℕ, IsTrue};
-ghost use Rattle.plane_exact.specs.Cone.{IsFromOneTo};
+ghost use Rattle.std.specs.Prelude.{◌≡◌, ◌≤◌};
+ghost use Rattle.plane_exact.specs.Cone.{IsCone, IsFromOneTo};
 ghost use Rattle.engrave_model.specs.Depth.{IsDiscClear, IsEdgeClear, IsGreatestDepth};
 ghost use Rattle.engrave_model.specs.Drawing.{edges_of};
+ghost use Rattle.depth_rule.specs.Deepest.{deepest_of};
 ghost use Rattle.depth_rule.specs.Greatest.{IsGreatestUpTo};
 
 use crate::around::disc_box;
@@ -26,20 +27,19 @@ pub fn greatest_depth(scene: &Scene, p: Point, bit: &Bit, limit: u32) -> u32
     }
 }
 
-/// The greatest depth up to `limit` at which the bit's radius is at most its greatest one.
-fn deepest(bit: &Bit, limit: u32) -> u32
-    ensures narrow { bit.now.sn * result ≤ bit.now.sd * bit.now.rmax }
-    ensures allowed { result ≤ limit }
-    ensures greatest { (z : ℕ) → z ≤ limit → bit.now.sn * z ≤ bit.now.sd * bit.now.rmax → z ≤ result }
+/// The greatest depth up to `limit`, in grid units, at which the bit's radius is at most its greatest one. No depth that fits anywhere is
+/// greater.
+pub fn deepest(bit: &Bit, limit: u32) -> u32
+    ensures value { result ≡ deepest_of bit.now limit }
+    ensures range { IsCone bit.now.sn bit.now.sd bit.now.rmax }
 {
     limit.min(bit.sd() * bit.rmax() / bit.sn())
 }
 
-/// The greatest depth up to `most` at which the bit's disc over `p` is clear of the edges. It asks for a small disc first, and for one
-/// of twice the depth as long as that one is clear: so the work follows the depth that is found, and not the bit's greatest radius.
-fn greatest_clear(scene: &Scene, p: Point, bit: &Bit, most: u32) -> u32
-    requires allowed { most ≤ MOST_DEPTH }
-    requires narrow { bit.now.sn * most ≤ bit.now.sd * bit.now.rmax }
+/// The greatest depth up to `most` at which the bit's disc over `p` is clear of the edges, however wide it is. It asks for a small disc
+/// first, and for one of twice the depth as long as that one is clear: so the work follows the depth that is found.
+pub fn greatest_clear(scene: &Scene, p: Point, bit: &Bit, most: u32) -> u32
+    requires { most ≤ MOST_DEPTH }
     ensures { IsGreatestUpTo (IsDiscClear (edges_of scene.now) bit.now p) most result }
 {
     let mut asked = most.min(first_depth(bit));
@@ -61,8 +61,7 @@ fn first_depth(bit: &Bit) -> u32
 
 /// The greatest depth up to `most` at which the disc is clear, by the edges near the disc of `most` alone.
 fn clear_near(scene: &Scene, p: Point, bit: &Bit, most: u32) -> u32
-    requires allowed { most ≤ MOST_DEPTH }
-    requires narrow { bit.now.sn * most ≤ bit.now.sd * bit.now.rmax }
+    requires { most ≤ MOST_DEPTH }
     ensures { IsGreatestUpTo (IsDiscClear (edges_of scene.now) bit.now p) most result }
 {
     let mut depth = most;

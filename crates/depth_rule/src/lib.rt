@@ -1,4 +1,4 @@
-//! The scene of a drawing: how deep the bit may go at a point of it, and the first edge that a move meets.
+//! The scene of a drawing: how deep the bit may go at a point of it, how far the edges are, and the first edge that a move meets.
 //!
 //! Its promise is the clause of `greatest_depth`, that the depth is the greatest that fits, and that of `first_met`, that the
 //! edge is the first against which the tests of a move fail, and `law::clear_move_law` and
@@ -10,6 +10,7 @@ mod bounds;
 mod clear;
 mod crossing;
 mod depth;
+mod distance;
 pub mod law;
 mod least;
 mod met;
@@ -17,10 +18,13 @@ mod scene;
 mod steps;
 #[cfg(test)]
 mod tests;
+mod ticks;
 
 pub use bounds::Bounds;
 pub use clear::is_clear;
-pub use depth::greatest_depth;
+pub use depth::{deepest, greatest_depth};
+pub use distance::clearance;
 pub use met::{Met, first_met};
 pub use scene::Scene;
 pub use steps::greatest_depth_by_steps;
+pub use ticks::{MOST_APART, Ticks, ticks_between};

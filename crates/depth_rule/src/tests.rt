@@ -1,5 +1,6 @@
 // A plate and a lug beside it: their bounding box, rows of points, and moves over them; and the first edges that cross.
 use crate::clear::is_clear;
+use crate::distance::clearance;
 use crate::scene::Scene;
 use loops_text::Drawing;
 use plane_exact::{Bit, Move, Point, Spot};
@@ -63,6 +64,30 @@ fn a_move_is_clear_until_the_bit_touches_an_edge(rt: HostRuntime) -> Result<(), 
             to: spot(to, h)?,
         };
         assert_eq!(rt; is_clear(&scene, &bit, &mv), want, "to {to} at {h}");
+    }
+    Ok(())
+}
+
+#[test]
+fn a_clearance_is_how_far_the_edges_are(rt: HostRuntime) -> Result<(), Fail> {
+    let scene = scene_of(rt.alloc(), &[&[(0, 0), (1000, 0), (1000, 1000), (0, 1000)]])?;
+    for (x, y, cap, want) in [
+        (500, 500, 600, 500),
+        (500, 500, 300, 300),
+        (500, 500, 0, 0),
+        (0, 0, 600, 0),
+        // Outside there is one too.
+        (-7, 500, 600, 7),
+        // The corner is 50 away, and then some 50.6.
+        (-30, -40, 600, 50),
+        (-31, -40, 600, 50),
+    ] {
+        let p = Point::new(x, y).ok_or("a point")?;
+        assert_eq!(rt;
+            clearance(&scene, p, cap),
+            want,
+            "at ({x}, {y}) up to {cap}"
+        );
     }
     Ok(())
 }

@@ -4,7 +4,8 @@ use Rattle.plane_exact.specs.Cone.{Cone}
 use Rattle.plane_exact.specs.Nodes.{GridNode}
 use Rattle.plane_exact.specs.declared.point.Seg.{Seg}
 use Rattle.swept_move.specs.Clear.{IsClear}
-use Rattle.link_split.specs.Link.{IsLink, move_between}
+use Rattle.depth_rule.specs.Along.{move_between}
+use Rattle.link_split.specs.Link.{IsLink}
 use Rattle.link_split.specs.Midway.{IsDeepest}
 use Rattle.link_split.specs.declared.step.Step.{Step}
 use Rattle.link_split.specs.declared.step.Step.TheVariants.{To, Lift}

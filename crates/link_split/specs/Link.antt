@@ -4,18 +4,14 @@
 -- clear; it isn't, and its way may not be halved; its way may, and two links join the halves.
 use Rattle.std.specs.Prelude.{◌≡◌, ◌≢◌, ◌⊎◌, ℕ, zero, suc, List, [], ◌∷◌, ◌++◌}
 use Rattle.plane_exact.specs.Cone.{Cone}
-use Rattle.plane_exact.specs.Nodes.{GridNode, node_place}
-use Rattle.plane_exact.specs.declared.moves.Move.{Move}
+use Rattle.plane_exact.specs.Nodes.{GridNode}
 use Rattle.plane_exact.specs.declared.point.Seg.{Seg}
 use Rattle.swept_move.specs.Clear.{IsClear}
 use Rattle.engrave_model.specs.Lists.{AreJoined}
+use Rattle.depth_rule.specs.Along.{move_between}
 use Rattle.link_split.specs.Midway.{HasNoMidway, IsMidway}
 use Rattle.link_split.specs.declared.step.Step.{Step}
 use Rattle.link_split.specs.declared.step.Step.TheVariants.{To, Lift}
-
--- the straight move from one node to another, in tenths of a grid unit
-abbrev pub move_between : GridNode → GridNode → Move
-move_between p q = record { from = node_place p; to = node_place q }
 
 -- both nodes are at the surface
 pub record AreAtSurface (p q : GridNode) : Type 0 where

@@ -4,9 +4,9 @@ use Rattle.std.specs.Prelude.{MatchOption}
 use Rattle.std.proofs.Common.{◌≡◌, ◌≤ℤ◌, subst, sym}
 use Rattle.plane_exact.specs.Plane.{GridPoint}
 use Rattle.plane_exact.proofs.Stored.{narrow, read_is}
+use Rattle.depth_rule.proofs.Multiples.{ticks_read}
 use Rattle.coverage_report.specs.Lattices.{IsBoxPoint, IsLatticeIn}
 use Rattle.coverage_report.proofs.Lattices.{lattice_in, lattice_is}
-use Rattle.coverage_report.proofs.Ticks.{ticks_read}
 use Rattle.coverage_report.proofs.lattice.lattice_of.Goals as goal
 
 pub returns-in_err-up : goal.returns-in_err-up

@@ -2,8 +2,8 @@
 use Rattle.std.specs.Int.{int_rem_euclid}
 use Rattle.std.proofs.Common.{arith, ap₂, ◌∙◌}
 use Rattle.std.proofs.lemmas.Int.{ints}
-use Rattle.coverage_report.proofs.Ticks.{first_multiple}
-use Rattle.coverage_report.proofs.lattice.first_from.Goals as goal
+use Rattle.depth_rule.proofs.Multiples.{first_multiple}
+use Rattle.depth_rule.proofs.ticks.first_from.Goals as goal
 
 pub returns-clause-multiple : goal.returns-clause-multiple
 returns-clause-multiple c =

@@ -3,10 +3,9 @@ use Rattle.std.specs.Prelude.{unsigned_abs}
 use Rattle.std.proofs.Common.{◌≡◌, ◌+◌, ◌/◌, pos, ◌+ℤ◌, ◌-ℤ◌, ◌<ℤ◌, ap, arith, subst, sym}
 use Rattle.std.proofs.lemmas.Int.{ints}
 use Rattle.plane_exact.proofs.Stored.{narrow}
-use Rattle.coverage_report.specs.Lattices.{AreTicks}
-use Rattle.coverage_report.specs.Points.{IsMultiple}
-use Rattle.coverage_report.proofs.Ticks.{least_multiple, natural_of, ticks_are}
-use Rattle.coverage_report.proofs.lattice.ticks_between.Goals as goal
+use Rattle.depth_rule.specs.Ticks.{AreTicks, IsMultiple}
+use Rattle.depth_rule.proofs.Multiples.{least_multiple, natural_of, ticks_are}
+use Rattle.depth_rule.proofs.ticks.ticks_between.Goals as goal
 
 pub returns-then-first-high : goal.returns-then-first-high
 returns-then-first-high c z multiple above under =

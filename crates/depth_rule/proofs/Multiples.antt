@@ -9,8 +9,7 @@ use Rattle.integer_algebra.proofs.Order.{cancel_lt, minus_times}
 use Rattle.integer_algebra.proofs.Ring.{plus_times, times_plus}
 use Rattle.plane_exact.specs.Plane.{IsCoordinate}
 use Rattle.plane_exact.proofs.Stored.{narrow}
-use Rattle.coverage_report.specs.Lattices.{AreTicks}
-use Rattle.coverage_report.specs.Points.{IsMultiple}
+use Rattle.depth_rule.specs.Ticks.{AreTicks, IsMultiple}
 
 -- z as a natural number
 pub record IsNatural (z : ℤ) : Type 0 where
