@@ -1,0 +1,7 @@
+-- The definitions of the crate.
+pub mod Fault
+pub mod Kept
+pub mod Law
+pub mod Pocket
+pub mod Runs
+pub mod Walk
