@@ -14,7 +14,8 @@ use Rattle.gcode_text.specs.declared.job.Job.{Job}
 use Rattle.gouge_checker.specs.Verdict.{IsVerdict}
 use Rattle.gouge_checker.specs.declared.verdict.Verdict.TheVariants.{Clear}
 use Rattle.swept_move.specs.Clear.{IsClear}
-use Rattle.carve_plan.proofs.Sound.{FitsAt, IsSound}
+use Rattle.depth_rule.specs.Along.{IsSound}
+use Rattle.carve_plan.proofs.Sound.{FitsAt}
 use Rattle.carve_plan.proofs.Staying.{clear_in_place, tenths_deep}
 use Rattle.carve_plan.proofs.Visiting.{later_there}
 

@@ -1,9 +1,9 @@
 -- What the program of a plan is worth: it is clear and safe, and it reaches each contact's node.
-use Rattle.std.proofs.Common.{◌≡◌, ◌≤◌, ◌++◌, ◌∷◌, [], ℕ, zero, suc, List, All, length, map, arith, refl, ap, inl, inr, subst, sym, ◌∙◌}
+use Rattle.std.proofs.Common.{◌≡◌, ◌≤◌, ◌++◌, ◌∷◌, [], ℕ, zero, suc, List, All, None, Some, length, map, arith, refl, ap, inl, inr, subst, sym, ◌∙◌}
 use Rattle.std.specs.List.{AllZip, Any, Contains, range_with_len}
 use Rattle.std.specs.List.Sorted.{IsPermutation}
 use Rattle.std.proofs.lemmas.List.FromFn.{fill_by_all}
-use Rattle.std.proofs.lemmas.List.Elements.{All-cons, All-nil, Contains-append_cases, Contains-append_left, Contains-append_right}
+use Rattle.std.proofs.lemmas.List.Elements.{All-append, All-cons, All-nil, Contains-append_cases, Contains-append_left, Contains-append_right}
 use Rattle.std.proofs.lemmas.List.Sorted.{All-permutation, Contains-permutation, IsPermutation-map, length_permutation, sum_by-IsPermutation}
 use Rattle.std.proofs.lemmas.List.Concat.{length-flat_map}
 use Rattle.plane_exact.specs.Cone.{Cone}
@@ -14,16 +14,18 @@ use Rattle.plane_exact.specs.declared.moves.LineMove.{LineMove}
 use Rattle.engrave_model.specs.Drawing.{edges_of}
 use Rattle.gcode_text.specs.Path.{chain_moves}
 use Rattle.gouge_checker.proofs.Safety.{clear_code_is_safe}
+use Rattle.depth_rule.specs.Along.{IsSound}
 use Rattle.link_split.specs.Midway.{IsDeepest}
 use Rattle.path_order.specs.Order.{IsOrder, chain_at}
 use Rattle.tangent_disc.specs.declared.contact.Contact.{Contact}
 use Rattle.carve_plan.specs.Law.{IsReached, PlanLaw}
 use Rattle.carve_plan.specs.Made.{nodes_of}
-use Rattle.carve_plan.specs.Plan.{IsPlan}
+use Rattle.cleanup_pocket.proofs.Sound.{pocket_sound}
+use Rattle.carve_plan.specs.Plan.{ArePocketChains, AskedPocket, IsPlan}
 use Rattle.carve_plan.specs.Stops.{AreRounds, IsStop}
 use Rattle.carve_plan.specs.declared.stop.Stop.{Stop}
 use Rattle.carve_plan.proofs.Paths.{node_reached, plan_clear}
-use Rattle.carve_plan.proofs.Sound.{IsSound, rounds_sound}
+use Rattle.carve_plan.proofs.Sound.{rounds_sound}
 use Rattle.carve_plan.proofs.Visiting.{first_there, later_there, rounds_visited}
 
 -- ---- the chains in their order
@@ -69,13 +71,15 @@ rounds_joined (round ∷ rounds) stops are =
     ∙ ap (λ nodes. round ++ nodes) (rounds_joined rounds are.later are.others)
 
 -- in another order there are as many chains and nodes
-pub plan_within : (loops : List (List GridPoint)) (cone : Cone) (limit step : ℕ) (plan : List (List GridNode)) → IsPlan loops cone limit step plan → AreWithinLimits plan
-plan_within loops cone limit step plan is =
-    let same = subst (IsPermutation is.chains) (sym is.are) (same_chains is.chains is.order is.ordered) in
+pub plan_within : (loops : List (List GridPoint)) (cone : Cone) (limit step : ℕ) (asked : AskedPocket) (plan : List (List GridNode))
+    → IsPlan loops cone limit step asked plan → AreWithinLimits plan
+plan_within loops cone limit step asked plan is =
+    let chains = is.chains ++ is.pocket in
+    let same = subst (IsPermutation chains) (sym is.are) (same_chains chains is.order is.ordered) in
     let nodes = length-flat_map (λ (part : List GridNode). part) in
     record {
-      chains_le = subst (λ n. n ≤ MOST_CHAINS) (sym (length_permutation is.chains plan same)) is.within.chains_le;
-      nodes_le = subst (λ n. n ≤ MOST_NODES) (sym (nodes plan ∙ sum_by-IsPermutation (λ chain. length chain) is.chains plan same ∙ sym (nodes is.chains))) is.within.nodes_le;
+      chains_le = subst (λ n. n ≤ MOST_CHAINS) (sym (length_permutation chains plan same)) is.within.chains_le;
+      nodes_le = subst (λ n. n ≤ MOST_NODES) (sym (nodes plan ∙ sum_by-IsPermutation (λ chain. length chain) chains plan same ∙ sym (nodes chains))) is.within.nodes_le;
     }
 
 module _ (loops : List (List GridPoint)) (cone : Cone) (limit : ℕ) where
@@ -96,16 +100,24 @@ module _ (loops : List (List GridPoint)) (cone : Cone) (limit : ℕ) where
       (record { node = stop.node; is = each.0.node; ends = reaches stop.node (first_there stop.node (nodes_of stops)) })
       (contacts_reached moves contacts stops each.1 (λ node there. reaches node (later_there stop.node (nodes_of stops) node there)))
 
+-- the chains of a pocket that is asked for are sound, and so is none
+asked_sound : (loops : List (List GridPoint)) (cone : Cone) (limit : ℕ) (asked : AskedPocket) (pocket : List (List GridNode)) → 1 ≤ cone.sn
+    → ArePocketChains loops cone limit asked pocket → All (IsSound (edges_of loops) cone limit) pocket
+asked_sound loops cone limit None pocket some none = subst (All (IsSound (edges_of loops) cone limit)) (sym none) (All-nil (IsSound (edges_of loops) cone limit))
+asked_sound loops cone limit (Some (way, over)) pocket some is = pocket_sound loops cone limit over way pocket some is
+
 pub plan_carves : PlanLaw
-plan_carves loops cone limit step job plan some is =
+plan_carves loops cone limit step asked job plan some is =
     let around = is.around in
     let parts = is.linked.parts in
+    let chains = is.chains ++ is.pocket in
     let moves = chain_moves job plan in
     let all = rounds_joined is.rounds around.stops around.parted in
     let deepest = subst (All (IsDeepest (edges_of loops) cone limit)) all (stops_deepest loops cone limit around.contacts around.stops around.each) in
-    let same = subst (IsPermutation is.chains) (sym is.are) (same_chains is.chains is.order is.ordered) in
-    let sound = All-permutation (IsSound (edges_of loops) cone limit) is.chains plan same
-    (subst (All (IsSound (edges_of loops) cone limit)) (sym is.linked.are) (rounds_sound (edges_of loops) cone limit is.rounds parts deepest is.linked.each))
+    let same = subst (IsPermutation chains) (sym is.are) (same_chains chains is.order is.ordered) in
+    let round = subst (All (IsSound (edges_of loops) cone limit)) (sym is.linked.are) (rounds_sound (edges_of loops) cone limit is.rounds parts deepest is.linked.each) in
+    let sound = All-permutation (IsSound (edges_of loops) cone limit) chains plan same
+    (All-append (IsSound (edges_of loops) cone limit) is.chains is.pocket round (asked_sound loops cone limit asked is.pocket some is.milled))
     in
     let clear = plan_clear loops cone some limit job origin plan sound in
     record {
@@ -117,6 +129,7 @@ plan_carves loops cone limit step job plan some is =
         each = contacts_reached loops cone limit moves around.contacts around.stops around.each (λ node there.
             let visited = rounds_visited (edges_of loops) cone limit is.rounds parts deepest is.linked.each node (subst (λ nodes. Contains nodes node) all there) in
             let held = in_some is.chains node (subst (λ cs. Contains (joined cs) node) (sym is.linked.are) visited) in
-            node_reached job plan node (in_joined plan held.chain node (Contains-permutation is.chains plan held.chain same held.there) held.inside));
+            let there = Contains-append_left is.chains is.pocket held.chain held.there in
+            node_reached job plan node (in_joined plan held.chain node (Contains-permutation chains plan held.chain same there) held.inside));
       };
     }

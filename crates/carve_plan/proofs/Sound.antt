@@ -7,8 +7,8 @@ use Rattle.plane_exact.specs.Nodes.{GridNode, joined}
 use Rattle.plane_exact.specs.declared.point.Seg.{Seg}
 use Rattle.engrave_model.specs.Depth.{Fits}
 use Rattle.swept_move.specs.Clear.{IsClear}
+use Rattle.depth_rule.specs.Along.{IsClearAlong, IsSound, move_between}
 use Rattle.link_split.specs.Law.{AreStepsClear, Leads, end_of, step_node}
-use Rattle.link_split.specs.Link.{move_between}
 use Rattle.link_split.specs.Midway.{IsDeepest}
 use Rattle.link_split.specs.declared.step.Step.{Step}
 use Rattle.link_split.specs.declared.step.Step.TheVariants.{Lift, To}
@@ -27,13 +27,7 @@ module _ {A : Type 0} (P : A → Type 0) where
   all_back (x ∷ xs) ys all = all_back xs ys (All-tail P x (xs ++ ys) all)
 
 module _ (edges : List Seg) (cone : Cone) where
-  -- each move along the nodes is clear
-  abbrev pub IsClearAlong : List GridNode → Type 0
-  IsClearAlong [] = Unit {0}
-  IsClearAlong (p ∷ []) = Unit {0}
-  IsClearAlong (p ∷ q ∷ nodes) = IsClear edges cone (move_between p q) × IsClearAlong (q ∷ nodes)
-
-  clear_push : (before : List GridNode) (p q : GridNode) → IsClearAlong (before ++ p ∷ []) → IsClear edges cone (move_between p q) → IsClearAlong ((before ++ p ∷ []) ++ q ∷ [])
+  clear_push : (before : List GridNode) (p q : GridNode) → IsClearAlong edges cone (before ++ p ∷ []) → IsClear edges cone (move_between p q) → IsClearAlong edges cone ((before ++ p ∷ []) ++ q ∷ [])
   clear_push [] p q so_far clear = (clear, tt)
   clear_push (a ∷ []) p q so_far clear = (so_far.0, (clear, tt))
   clear_push (a ∷ b ∷ before) p q so_far clear = (so_far.0, clear_push (b ∷ before) p q so_far.1 clear)
@@ -42,19 +36,18 @@ module _ (edges : List Seg) (cone : Cone) where
     abbrev pub FitsAt : GridNode → Type 0
     FitsAt node = Fits edges cone limit node.at node.depth
 
-    pub record IsSound (nodes : List GridNode) : Type 0 where
-      pub fits : All FitsAt nodes
-      pub clear : IsClearAlong nodes
+    abbrev IsSoundChain : List GridNode → Type 0
+    IsSoundChain = IsSound edges cone limit
 
     abbrev IsStepDeepest : Step → Type 0
     IsStepDeepest step = IsDeepest edges cone limit (step_node step)
 
-    one_sound : (node : GridNode) → FitsAt node → IsSound (node ∷ [])
+    one_sound : (node : GridNode) → FitsAt node → IsSoundChain (node ∷ [])
     one_sound node fits = record { fits = All-cons FitsAt node [] fits (All-nil FitsAt); clear = tt }
 
-    along_sound : (before : List GridNode) (p : GridNode) (steps : List Step) → IsSound (before ++ p ∷ []) → AreStepsClear edges cone p steps → All IsStepDeepest steps
-        → All IsSound (chains_along (before ++ p ∷ []) steps)
-    along_sound before p [] sound clear deepest = All-cons IsSound (before ++ p ∷ []) [] sound (All-nil IsSound)
+    along_sound : (before : List GridNode) (p : GridNode) (steps : List Step) → IsSoundChain (before ++ p ∷ []) → AreStepsClear edges cone p steps → All IsStepDeepest steps
+        → All IsSoundChain (chains_along (before ++ p ∷ []) steps)
+    along_sound before p [] sound clear deepest = All-cons IsSoundChain (before ++ p ∷ []) [] sound (All-nil IsSoundChain)
     along_sound before p (To q ∷ steps) sound clear deepest =
         let at = All-head IsStepDeepest (To q) steps deepest in
         along_sound (before ++ p ∷ []) q steps
@@ -62,7 +55,7 @@ module _ (edges : List Seg) (cone : Cone) where
         clear.1 (All-tail IsStepDeepest (To q) steps deepest)
     along_sound before p (Lift q ∷ steps) sound clear deepest =
         let at = All-head IsStepDeepest (Lift q) steps deepest in
-        All-cons IsSound (before ++ p ∷ []) (chains_along (q ∷ []) steps) sound
+        All-cons IsSoundChain (before ++ p ∷ []) (chains_along (q ∷ []) steps) sound
         (along_sound [] q steps (one_sound q at.fits) clear.1 (All-tail IsStepDeepest (Lift q) steps deepest))
 
     -- ---- links in turn
@@ -83,18 +76,18 @@ module _ (edges : List Seg) (cone : Cone) where
     pub targets_deep : (first : GridNode) (others : List GridNode) → All IsDeep (first ∷ others) → All IsDeep (others ++ first ∷ [])
     targets_deep first others deepest = All-push IsDeep others first (All-tail IsDeep first others deepest) (All-head IsDeep first others deepest)
 
-    round_sound : (round : List GridNode) (chains : List (List GridNode)) → All IsDeep round → AreRoundChains edges cone limit round chains → All IsSound chains
-    round_sound [] chains deepest are = subst (All IsSound) (sym are) (All-nil IsSound)
+    round_sound : (round : List GridNode) (chains : List (List GridNode)) → All IsDeep round → AreRoundChains edges cone limit round chains → All IsSoundChain chains
+    round_sound [] chains deepest are = subst (All IsSoundChain) (sym are) (All-nil IsSoundChain)
     round_sound (first ∷ others) chains deepest around =
         let led = linked_leads first (others ++ first ∷ []) around.steps (targets_deep first others deepest) around.linked in
         let at = All-head IsDeep first others deepest in
-        subst (All IsSound) (sym around.are) (along_sound [] first around.steps (one_sound first at.fits) led.clear led.deepest)
+        subst (All IsSoundChain) (sym around.are) (along_sound [] first around.steps (one_sound first at.fits) led.clear led.deepest)
 
     pub rounds_sound : (rounds : List (List GridNode)) (parts : List (List (List GridNode))) → All IsDeep (joined rounds) → AllZip (AreRoundChains edges cone limit) rounds parts
-        → All IsSound (joined parts)
-    rounds_sound [] [] deepest each = All-nil IsSound
+        → All IsSoundChain (joined parts)
+    rounds_sound [] [] deepest each = All-nil IsSoundChain
     rounds_sound [] (chains ∷ parts) deepest each = absurd each
     rounds_sound (round ∷ rounds) [] deepest each = absurd each
     rounds_sound (round ∷ rounds) (chains ∷ parts) deepest each =
-        All-append IsSound chains (joined parts) (round_sound round chains (all_front IsDeep round (joined rounds) deepest) each.0)
+        All-append IsSoundChain chains (joined parts) (round_sound round chains (all_front IsDeep round (joined rounds) deepest) each.0)
         (rounds_sound rounds parts (all_back IsDeep round (joined rounds) deepest) each.1)

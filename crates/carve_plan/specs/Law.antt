@@ -12,7 +12,7 @@ use Rattle.gouge_checker.specs.Verdict.{IsVerdict}
 use Rattle.gouge_checker.specs.declared.verdict.Verdict.TheVariants.{Clear}
 use Rattle.tangent_disc.specs.Contacts.{AreContacts}
 use Rattle.tangent_disc.specs.declared.contact.Contact.{Contact}
-use Rattle.carve_plan.specs.Plan.{IsPlan}
+use Rattle.carve_plan.specs.Plan.{AskedPocket, IsPlan}
 use Rattle.carve_plan.specs.Stops.{IsContactNode}
 
 -- some move ends at the contact's node
@@ -36,5 +36,5 @@ pub record CarvesWell (loops : List (List GridPoint)) (cone : Cone) (limit step 
 -- the moves of a plan carve well, for a bit of some width, whatever the safe height
 abbrev pub PlanLaw : Type 0
 PlanLaw =
-    (loops : List (List GridPoint)) (cone : Cone) (limit step : ℕ) (job : Job) (plan : List (List GridNode)) → 1 ≤ cone.sn
-    → IsPlan loops cone limit step plan → CarvesWell loops cone limit step (chain_moves job plan)
+    (loops : List (List GridPoint)) (cone : Cone) (limit step : ℕ) (asked : AskedPocket) (job : Job) (plan : List (List GridNode)) → 1 ≤ cone.sn
+    → IsPlan loops cone limit step asked plan → CarvesWell loops cone limit step (chain_moves job plan)

@@ -4,4 +4,5 @@ pub mod Fault
 pub mod Law
 pub mod Made
 pub mod Plan
+pub mod Pockets
 pub mod Stops

@@ -2,6 +2,7 @@
 // as the bit and the square allow, and at a corner there is none, so that only the depth 0 fits there.
 use crate::fault::PlanFault;
 use crate::plans::plan;
+use cleanup_pocket::Way;
 use depth_rule::Scene;
 use loops_text::Drawing;
 use plane_exact::{Bit, Chain, MOST_DEPTH, Point};
@@ -55,7 +56,7 @@ fn planned(
     if step < 1 || step > MOST_STEP {
         return Err(Fail::from("a step"));
     }
-    match plan(alloc, &scene, &bit, MOST_DEPTH, step) {
+    match plan(alloc, &scene, &bit, MOST_DEPTH, step, None) {
         Ok(chains) => Ok(Ok(text_of(alloc, &chains)?)),
         Err(fault) => Ok(Err(fault)),
     }
@@ -120,6 +121,22 @@ fn a_step_may_be_too_fine(rt: HostRuntime) -> Result<(), Fail> {
     match planned(alloc, &[WIDE_SQUARE], 2, 1)? {
         Err(fault) => assert_eq!(rt; fault, PlanFault::Contact(ContactFault::StepTooFine(0))),
         Ok(_) => return Err(Fail::from("a fault")),
+    }
+    Ok(())
+}
+
+#[test]
+fn the_rows_of_a_pocket_are_among_the_chains(rt: HostRuntime) -> Result<(), Fail> {
+    let alloc = rt.alloc();
+    let scene = scene_of(alloc, &[[(0, 0), (10, 0), (10, 10), (0, 10)]])?;
+    let bit = Bit::new(1, 1, 2).ok_or("a bit")?;
+    // Of the two rows the lower is nearest to the corner at which the bit is twice, and the upper to the corner above it.
+    match plan(alloc, &scene, &bit, 2, 10, Some((Way::X, 3))) {
+        Ok(chains) => assert_eq!(rt;
+            text_of(alloc, &chains)?.as_str(),
+            "0 0 0, up; 0 0 0, up; 2 3 2, 8 3 2, up; 10 0 0, up; 10 10 0, up; 2 6 2, 8 6 2, up; 0 10 0, up; "
+        ),
+        Err(_) => return Err(Fail::from("a plan")),
     }
     Ok(())
 }

@@ -7,14 +7,17 @@ mod check;
 mod contacts;
 mod cover;
 mod devices;
+mod evenodd;
 mod flatten;
 mod large;
 mod lettering;
 mod listing;
 mod moves;
+mod pockets;
 mod probe;
 mod refusals;
 mod segments;
+mod trial;
 
 use engrave_core::{engrave, status};
 use shop_port::{MemDepot, MemSink};

@@ -1,5 +1,5 @@
 -- Where Done is due, or a verdict, no refusal of a reading is: each value that was needed was there.
-use Rattle.std.specs.Prelude.{◌≡◌, ◌≢◌, ℕ, List, [], Option, Some, None, Result, Ok, Err, Vec, unwrap_or}
+use Rattle.std.specs.Prelude.{◌≡◌, ◌≢◌, ℕ, List, [], Option, Some, None, Result, Ok, Err, MatchResult, unwrap_or}
 use Rattle.std.specs.Result.{IsErr, IsErrAnd}
 use Rattle.std.proofs.Common.{refl, subst, sym}
 use Rattle.grid_num.specs.Judging.{and_then}
@@ -13,6 +13,8 @@ use Rattle.cxf_font.specs.declared.lay_fault.LayFault.{LayFault}
 use Rattle.cxf_font.specs.declared.lay_fault.LayFault.TheVariants as lay
 use Rattle.dxf_outline.specs.Outline.{dxf_of}
 use Rattle.grid_num.specs.Units.{per_unit_of}
+use Rattle.job_words.specs.declared.request.CrossWord.{CrossWord}
+use Rattle.job_words.specs.declared.request.CrossWord.TheVariants as cross
 use Rattle.job_words.specs.declared.request.DrawingWords.{DrawingWords}
 use Rattle.job_words.specs.declared.request.FormWord.{FormWord}
 use Rattle.job_words.specs.declared.request.FormWord.TheVariants as form
@@ -32,7 +34,7 @@ use Rattle.loops_text.specs.declared.reader.TheConstants.{MOST_DRAWING_BYTES}
 use Rattle.shop_port.specs.Loading.{file_within}
 use Rattle.shop_port.specs.declared.loading.LoadFault.{LoadFault}
 use Rattle.shop_port.specs.declared.loading.LoadFault.TheVariants as load
-use Rattle.engrave_core.specs.Given.{IsGivenBy, IsReported}
+use Rattle.engrave_core.specs.Given.{IsGivenBy}
 use Rattle.engrave_core.specs.Line.{line_of}
 use Rattle.engrave_core.specs.Outcome.{IfAnswered, outcome_of}
 use Rattle.engrave_core.specs.Drawing.{IsDrawingOf, IsGivenByDrawing, IsGuardedResult, ReadDrawing, drawing_of, joined, layout_of, read_as, stored_drawing}
@@ -158,14 +160,15 @@ stored_drawing_gives_none files shape =
     (or_refused_gives_none (file_refusal Drawing) (file_gives_none Drawing) (file_within MOST_DRAWING_BYTES (files shape.drawing)))
     (λ text. read_gives_none shape.form shape text)
 
-guarded_gives_none : (drawing answer : Result ReadDrawing Refusal) → GivesNoVerdict drawing → IsGuardedResult drawing answer → GivesNoVerdict answer
-guarded_gives_none (Err refusal) answer other is = subst GivesNoVerdict (sym is) other
-guarded_gives_none (Ok drawing) (Ok answer) other is = tt
-guarded_gives_none (Ok drawing) (Err refusal) other is = λ verdict same. let crossed = is.is in cc
+guarded_gives_none : (word : CrossWord) (drawing answer : Result ReadDrawing Refusal) → GivesNoVerdict drawing → IsGuardedResult word drawing answer → GivesNoVerdict answer
+guarded_gives_none word (Err refusal) answer other is = subst GivesNoVerdict (sym is) other
+guarded_gives_none cross.Refuse (Ok drawing) (Ok answer) other is = tt
+guarded_gives_none cross.Refuse (Ok drawing) (Err refusal) other is = λ verdict same. let crossed = is.is in cc
+guarded_gives_none cross.Evenodd (Ok drawing) answer other is = subst GivesNoVerdict (sym is) other
 
 pub drawing_gives_none : (files : Files) (shape : DrawingWords) (answer : Result ReadDrawing Refusal) → IsDrawingOf files shape answer → GivesNoVerdict answer
 unfolding IsDrawingOf
-drawing_gives_none files shape answer is = guarded_gives_none (stored_drawing files shape) answer (stored_drawing_gives_none files shape) is
+drawing_gives_none files shape answer is = guarded_gives_none shape.cross (stored_drawing files shape) answer (stored_drawing_gives_none files shape) is
 
 pub code_gives_none : (files : Files) (units : Units) (name : List ℕ) → GivesNoVerdict (stored_code files units name)
 unfolding stored_code code_of
@@ -197,8 +200,9 @@ found_drawing_for Gives files shape verdict text due = go due.answer due.is due.
     go (Ok drawing) is given = record { drawing = drawing; is = is; gives = given }
     go (Err refusal) is given = absurd (no_verdict refusal verdict (drawing_gives_none files shape (Err refusal) is) given.refused)
 
--- a result that is a refusal is reported as due, where the refusal is
-pub refused_is_reported : {A : Type 0} (Due : Outcome → List ℕ → Type 0) (r : Result (Vec ℕ A) Refusal) (refusal : Refusal) → IsErr r → IsErrAnd r (λ given. given ≡ refusal)
-    → IfAnswered (outcome_of refusal) (Due (outcome_of refusal) (line_of (outcome_of refusal))) → IsReported Due r
-refused_is_reported Due (Ok text) refusal fails is due = cc
-refused_is_reported Due (Err given) refusal fails is due = subst (λ g. IfAnswered (outcome_of g) (Due (outcome_of g) (line_of (outcome_of g)))) (sym is) due
+-- a result that is a refusal is answered by it, where it is due
+pub refused_is_answered : {A : Type 0} (Is : A → Type 0) (Due : Outcome → List ℕ → Type 0) (r : Result A Refusal) (refusal : Refusal) → IsErr r → IsErrAnd r (λ given. given ≡ refusal)
+    → IfAnswered (outcome_of refusal) (Due (outcome_of refusal) (line_of (outcome_of refusal)))
+    → MatchResult r Is (λ given. IfAnswered (outcome_of given) (Due (outcome_of given) (line_of (outcome_of given))))
+refused_is_answered Is Due (Ok x) refusal fails is due = cc
+refused_is_answered Is Due (Err given) refusal fails is due = subst (λ g. IfAnswered (outcome_of g) (Due (outcome_of g) (line_of (outcome_of g)))) (sym is) due

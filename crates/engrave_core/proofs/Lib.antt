@@ -4,10 +4,13 @@ pub mod CheckedCode
 pub mod ContactLines
 pub mod CoveredCode
 pub mod Done
+pub mod Guarding
 pub mod JudgedCode
 pub mod Reported
 pub mod ReportedCheck
 pub mod Safety
 pub mod StreamedCode
 pub mod Texts
+pub mod TriedField
+pub mod Untouched
 pub mod Writing

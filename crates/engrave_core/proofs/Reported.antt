@@ -1,5 +1,5 @@
 -- Results that are reported as due, where what is due follows from something else.
-use Rattle.std.specs.Prelude.{◌≡◌, ℕ, List, Result, Ok, Err, Vec}
+use Rattle.std.specs.Prelude.{ℕ, List, Result, Ok, Err, Vec}
 use Rattle.engrave_core.specs.Given.{IsReported}
 use Rattle.engrave_core.specs.Line.{line_of}
 use Rattle.engrave_core.specs.Outcome.{IfAnswered, outcome_of}

@@ -1,6 +1,6 @@
 -- The verdict on a stored program, reported over its drawing, is what is due for `check`.
 use Rattle.std.specs.Prelude.{◌≡◌, ◌≤◌, ℕ, List, Option, None, Some, Result, Ok, Err, Vec, IfErr, IfSome}
-use Rattle.std.proofs.Common.{sym, subst, ap, ◌∙◌}
+use Rattle.std.proofs.Common.{subst}
 use Rattle.engrave_model.specs.Drawing.{edges_of}
 use Rattle.gouge_checker.specs.declared.verdict.Verdict.{Verdict}
 use Rattle.gouge_checker.proofs.Exact.{verdict_is_true}

@@ -5,7 +5,7 @@ use Rattle.job_words.specs.declared.request.DrawingWords.{DrawingWords}
 use Rattle.job_words.specs.declared.request.Request.{Request}
 use Rattle.plane_exact.specs.Cone.{Cone}
 use Rattle.shop_port.specs.Output.{Appended}
-use Rattle.engrave_core.specs.Commands.Carve.{job_of}
+use Rattle.engrave_core.specs.Commands.Carve.{job_of, pocket_of}
 use Rattle.engrave_core.specs.Commands.Check.{IsDueOfCheck, IsTrueOfCheck}
 use Rattle.engrave_core.specs.Due.{IsDueOf, IsGoodText, IsSafeRun, IsTrueReport, IsTrueRun}
 use Rattle.engrave_core.specs.Given.{cone_of}
@@ -46,8 +46,8 @@ module _ (files : Files) (asked : Option Request) (text : List ℕ) (outcome res
 
   -- a text that is due with Done is good, where it is a program, and true, where it is a report
   pub good_text : IsDueOf files asked Done text → IsGoodText files asked text
-  good_text due shape bit rmax step limit safe feed pitch is =
-      carved_is_good files shape (job_of shape.units (cone_of bit rmax) step limit safe feed) pitch text (subst (λ a. IsDueOf files a Done text) is due)
+  good_text due shape bit rmax step limit safe feed pitch lines over is =
+      carved_is_good files shape (job_of shape.units (cone_of bit rmax) step limit safe feed) pitch (pocket_of lines over) text (subst (λ a. IsDueOf files a Done text) is due)
 
   pub true_report : IsDueOf files asked Done text → IsTrueReport files asked text
   true_report due shape code bit rmax pitch is =

@@ -2,13 +2,14 @@
 use Rattle.std.specs.Prelude.{ℕ, List}
 use Rattle.job_words.specs.declared.request.Request.{Request}
 use Rattle.job_words.specs.declared.request.Request.TheVariants as request
-use Rattle.engrave_core.specs.Commands.Carve.{IsDueOfCarve, IsRefusalOfCarve, job_of}
+use Rattle.engrave_core.specs.Commands.Carve.{IsDueOfCarve, IsRefusalOfCarve, job_of, pocket_of}
 use Rattle.engrave_core.specs.Commands.Check.{IsDueOfCheck, IsRefusalOfCheck}
 use Rattle.engrave_core.specs.Commands.Contacts.{IsDueOfContacts, IsRefusalOfTouching}
 use Rattle.engrave_core.specs.Commands.Cover.{IsDueOfCover, IsRefusalOfCover}
 use Rattle.engrave_core.specs.Commands.Flatten.{IsDueOfFlatten, IsRefusalOfFlatten}
 use Rattle.engrave_core.specs.Commands.Moves.{IsDueOfMoves, IsRefusalOfMoves}
 use Rattle.engrave_core.specs.Commands.Probe.{IsDueOfProbe, IsRefusalOfProbe}
+use Rattle.engrave_core.specs.Commands.Trial.{IsDueOfTrial, IsRefusalOfTrial}
 use Rattle.engrave_core.specs.Given.{cone_of}
 use Rattle.engrave_core.specs.Stored.{Files}
 use Rattle.engrave_core.specs.declared.outcome.Outcome.{Outcome}
@@ -19,6 +20,7 @@ pub mod Cover
 pub mod Flatten
 pub mod Moves
 pub mod Probe
+pub mod Trial
 
 -- the outcome and the text that are due
 abbrev pub IsDueOfRequest : Files → Request → Outcome → List ℕ → Type 0
@@ -26,9 +28,11 @@ IsDueOfRequest files (request.Probe shape at bit rmax limit) = IsDueOfProbe file
 IsDueOfRequest files (request.Moves code units) = IsDueOfMoves files code units
 IsDueOfRequest files (request.Check shape code bit rmax) = IsDueOfCheck files shape code (cone_of bit rmax)
 IsDueOfRequest files (request.Contacts shape step rmax) = IsDueOfContacts files shape step rmax
-IsDueOfRequest files (request.Carve shape bit rmax step limit safe feed pitch) = IsDueOfCarve files shape (job_of shape.units (cone_of bit rmax) step limit safe feed) pitch
+IsDueOfRequest files (request.Carve shape bit rmax step limit safe feed pitch lines over) =
+    IsDueOfCarve files shape (job_of shape.units (cone_of bit rmax) step limit safe feed) pitch (pocket_of lines over)
 IsDueOfRequest files (request.Cover shape code bit rmax pitch) = IsDueOfCover files shape code (cone_of bit rmax) pitch
 IsDueOfRequest files (request.Flatten shape) = IsDueOfFlatten files shape
+IsDueOfRequest files (request.Trial count) = IsDueOfTrial count
 
 -- the refusals that there are, whatever the files have
 abbrev pub IsRefusalOfRequest : Request → Outcome → Type 0
@@ -36,6 +40,7 @@ IsRefusalOfRequest (request.Probe shape at bit rmax limit) = IsRefusalOfProbe sh
 IsRefusalOfRequest (request.Moves code units) = IsRefusalOfMoves
 IsRefusalOfRequest (request.Check shape code bit rmax) = IsRefusalOfCheck shape
 IsRefusalOfRequest (request.Contacts shape step rmax) = IsRefusalOfTouching shape
-IsRefusalOfRequest (request.Carve shape bit rmax step limit safe feed pitch) = IsRefusalOfCarve shape
+IsRefusalOfRequest (request.Carve shape bit rmax step limit safe feed pitch lines over) = IsRefusalOfCarve shape
 IsRefusalOfRequest (request.Cover shape code bit rmax pitch) = IsRefusalOfCover shape
 IsRefusalOfRequest (request.Flatten shape) = IsRefusalOfFlatten shape
+IsRefusalOfRequest (request.Trial count) = IsRefusalOfTrial

@@ -10,6 +10,8 @@ use Rattle.engrave_model.specs.Crossing.{IsFirstCrossing, IsFirstCrossPair}
 use Rattle.engrave_model.specs.Drawing.{edges_of}
 use Rattle.grid_num.specs.Judging.{and_then}
 use Rattle.grid_num.specs.Units.{per_unit_of}
+use Rattle.job_words.specs.declared.request.CrossWord.{CrossWord}
+use Rattle.job_words.specs.declared.request.CrossWord.TheVariants as cross
 use Rattle.job_words.specs.declared.request.DrawingWords.{DrawingWords}
 use Rattle.job_words.specs.declared.request.FormWord.{FormWord}
 use Rattle.job_words.specs.declared.request.FormWord.TheVariants as form
@@ -118,19 +120,25 @@ pub record IsUncrossed (drawing answer : ReadDrawing) : Type 0 where
   pub same : answer ≡ drawing
   pub none : IsFirstCrossing (edges_of drawing.loops) None
 
--- what is answered where a drawing is read that may cross itself
-abbrev pub IsGuarded : ReadDrawing → Result ReadDrawing Refusal → Type 0
-IsGuarded drawing (Ok answer) = IsUncrossed drawing answer
-IsGuarded drawing (Err refusal) = IsCrossed drawing refusal
+-- the first two edges that cross, where that is refused
+abbrev pub IsRefusedCrossing : CrossWord → List Seg → Option (ℕ × ℕ) → Type 0
+IsRefusedCrossing cross.Refuse edges pair = IsFirstCrossing edges pair
+IsRefusedCrossing cross.Evenodd edges pair = pair ≡ None
 
--- the drawing, where no two of its edges cross, or the refusal of it
-abbrev pub IsGuardedResult : Result ReadDrawing Refusal → Result ReadDrawing Refusal → Type 0
-IsGuardedResult (Ok drawing) answer = IsGuarded drawing answer
-IsGuardedResult (Err refusal) answer = answer ≡ Err refusal
+-- what is answered where a drawing is read whose edges may cross: it is refused where they do, or taken as it is
+abbrev pub IsGuarded : CrossWord → ReadDrawing → Result ReadDrawing Refusal → Type 0
+IsGuarded cross.Refuse drawing (Ok answer) = IsUncrossed drawing answer
+IsGuarded cross.Refuse drawing (Err refusal) = IsCrossed drawing refusal
+IsGuarded cross.Evenodd drawing answer = answer ≡ Ok drawing
+
+-- the drawing, or the refusal of it
+abbrev pub IsGuardedResult : CrossWord → Result ReadDrawing Refusal → Result ReadDrawing Refusal → Type 0
+IsGuardedResult word (Ok drawing) answer = IsGuarded word drawing answer
+IsGuardedResult word (Err refusal) answer = answer ≡ Err refusal
 
 -- the drawing that the words name, or the refusal of it
 unfoldable pub IsDrawingOf : Files → DrawingWords → Result ReadDrawing Refusal → Type 0
-IsDrawingOf files shape answer = IsGuardedResult (stored_drawing files shape) answer
+IsDrawingOf files shape answer = IsGuardedResult shape.cross (stored_drawing files shape) answer
 
 -- what the drawing gives that the words name, or else the refusal of it
 pub record IsGivenByDrawing (Gives : ReadDrawing → Outcome → List ℕ → Type 0) (files : Files) (shape : DrawingWords) (outcome : Outcome) (text : List ℕ) : Type 0 where

@@ -2,6 +2,7 @@
 use Rattle.std.specs.Prelude.{◌≡◌, ℕ, Option, Some, None, List, is_some, IsTrue}
 use Rattle.job_words.specs.Request.{request_of}
 use Rattle.job_words.specs.declared.request.DrawingWords.{DrawingWords}
+use Rattle.job_words.specs.declared.request.PocketWord.{PocketWord}
 use Rattle.job_words.specs.declared.request.Request.{Request}
 use Rattle.job_words.specs.declared.request.Request.TheVariants as request
 use Rattle.engrave_core.specs.Commands.{IsDueOfRequest, IsRefusalOfRequest}
@@ -17,6 +18,12 @@ use Rattle.engrave_core.specs.declared.refusal.Refusal.TheVariants.{Usage}
 -- the words are a command of the program
 abbrev pub IsAccepted : List (List ℕ) → Type 0
 IsAccepted words = IsTrue (is_some (request_of words))
+
+-- the words make no request, or one that is about no file
+abbrev pub AsksForNoFile : Option Request → Type 0
+AsksForNoFile None = Unit {0}
+AsksForNoFile (Some (request.Trial count)) = Unit {0}
+AsksForNoFile (Some asked) = ⊥
 
 -- what is due for the request, or the usage line where the words make none
 abbrev pub IsDueOf : Files → Option Request → Outcome → List ℕ → Type 0
@@ -55,8 +62,8 @@ IsTrueRun files asked outcome =
 -- what is known of the text that is written with Done where the request is to carve
 abbrev pub IsGoodText : Files → Option Request → List ℕ → Type 0
 IsGoodText files asked text =
-    (shape : DrawingWords) (bit : ℕ × ℕ) (rmax step limit safe feed pitch : ℕ)
-    → asked ≡ Some (request.Carve shape bit rmax step limit safe feed pitch)
+    (shape : DrawingWords) (bit : ℕ × ℕ) (rmax step limit safe feed pitch : ℕ) (lines : PocketWord) (over : ℕ)
+    → asked ≡ Some (request.Carve shape bit rmax step limit safe feed pitch lines over)
     → StoresWellCarved files shape (job_of shape.units (cone_of bit rmax) step limit safe feed) pitch text
 
 -- what is known of the text that is written with Done where the request is to cover: it is the report on the stored program

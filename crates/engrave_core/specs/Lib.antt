@@ -7,6 +7,7 @@ pub mod Judging
 pub mod Line
 pub mod Loaded
 pub mod Outcome
+pub mod Programs
 pub mod Refusals
 pub mod Stored
 pub mod Streamed

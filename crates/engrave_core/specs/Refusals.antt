@@ -8,6 +8,8 @@ use Rattle.cxf_font.specs.declared.lay_fault.LayFault.TheVariants as lay
 use Rattle.dxf_outline.specs.declared.fault.DxfFault.{DxfFault}
 use Rattle.dxf_outline.specs.declared.fault.DxfKind.{DxfKind}
 use Rattle.dxf_outline.specs.declared.fault.DxfKind.TheVariants as dxf
+use Rattle.job_words.specs.declared.request.CrossWord.{CrossWord}
+use Rattle.job_words.specs.declared.request.CrossWord.TheVariants as cross
 use Rattle.job_words.specs.declared.request.DrawingWords.{DrawingWords}
 use Rattle.job_words.specs.declared.request.FormWord.{FormWord}
 use Rattle.job_words.specs.declared.request.FormWord.TheVariants as form
@@ -181,10 +183,10 @@ IsRefusalOfForm form.Cxf outcome = IsRefusalOfCxf outcome ⊎ IsRefusalOfSegment
 IsRefusalOfForm form.Pbm outcome = IsRefusalOfPbm outcome ⊎ IsRefusalOfSegments outcome
 
 -- the refusals of a drawing whose edges may cross
-abbrev pub IsRefusalOfEdges : Outcome → Type 0
-IsRefusalOfEdges (Input (Cross i j)) = i < j
-IsRefusalOfEdges Memory = Unit {0}
-IsRefusalOfEdges outcome = ⊥
+abbrev pub IsRefusalOfEdges : CrossWord → Outcome → Type 0
+IsRefusalOfEdges cross.Refuse (Input (Cross i j)) = i < j
+IsRefusalOfEdges word Memory = Unit {0}
+IsRefusalOfEdges word outcome = ⊥
 
 -- the refusals of a text as a G-code program
 abbrev pub IsRefusalOfCode : Outcome → Type 0
@@ -194,7 +196,7 @@ IsRefusalOfCode outcome = ⊥
 
 -- the refusals of the drawing that the words name: of its file, of what the file says, and of its edges
 abbrev pub IsRefusalOfDrawing : DrawingWords → Outcome → Type 0
-IsRefusalOfDrawing shape outcome = IsRefusalOfFile Drawing outcome ⊎ (IsRefusalOfForm shape.form outcome ⊎ IsRefusalOfEdges outcome)
+IsRefusalOfDrawing shape outcome = IsRefusalOfFile Drawing outcome ⊎ (IsRefusalOfForm shape.form outcome ⊎ IsRefusalOfEdges shape.cross outcome)
 
 -- the refusals of the file that `--code` names
 abbrev pub IsRefusalOfStoredCode : Outcome → Type 0

@@ -1,9 +1,9 @@
 // What the words' command gives: the text that it writes, or the refusal.
-ghost use Rattle.std.specs.Prelude.{◌≡◌, IfOk, IfErr, map, string_bytes};
+ghost use Rattle.std.specs.Prelude.{◌≡◌, IfOk, IfErr, Some, map, string_bytes};
 ghost use Rattle.plane_exact.specs.Cone.{IsCone};
 ghost use Rattle.job_words.specs.Request.{IsInRange, request_of};
 ghost use Rattle.engrave_core.specs.Commands.{IsDueOfRequest, IsRefusalOfRequest};
-ghost use Rattle.engrave_core.specs.Due.{IsAccepted, IsDue, IsRefusalOfWords};
+ghost use Rattle.engrave_core.specs.Due.{AsksForNoFile, IsAccepted, IsDue, IsRefusalOfWords};
 ghost use Rattle.engrave_core.specs.Given.{IsReported, cone_of};
 ghost use Rattle.engrave_core.specs.Stored.{AnswersFrom};
 ghost use Rattle.engrave_core.specs.Outcome.{outcome_of};
@@ -15,6 +15,7 @@ mod cover;
 mod flatten;
 mod moves;
 mod probe;
+mod trial;
 
 use crate::refusal::Refusal;
 use gcode_text::Job;
@@ -29,7 +30,7 @@ pub fn answer<D: Depot>(alloc: Global, words: &[String], depot: &mut D) -> Resul
         (λ files. IsReported (IsDue (map string_bytes words.now) files)) result }
     ensures refusal { IfErr result (λ refusal. IsRefusalOfWords (request_of (map string_bytes words.now)) (outcome_of refusal)) }
     ensures accepted { IfOk result (λ _. IsAccepted (map string_bytes words.now)) }
-    ensures untouched { ¬ IsAccepted (map string_bytes words.now) → depot.new ≡ depot.old }
+    ensures untouched { AsksForNoFile (request_of (map string_bytes words.now)) → depot.new ≡ depot.old }
 {
     let request = read_words(alloc, words)?;
     run(alloc, &request, depot)
@@ -41,6 +42,7 @@ fn run<D: Depot>(alloc: Global, request: &Request, depot: &mut D) -> Result<Vec<
     ensures value { AnswersFrom D.held D.faults D.misses depot.old depot.new
         (λ files. IsReported (IsDueOfRequest files request.now)) result }
     ensures refusal { IfErr result (λ refusal. IsRefusalOfRequest request.now (outcome_of refusal)) }
+    ensures untouched { AsksForNoFile (Some request.now) → depot.new ≡ depot.old }
 {
     match request {
         Request::Probe {
@@ -67,6 +69,8 @@ fn run<D: Depot>(alloc: Global, request: &Request, depot: &mut D) -> Result<Vec<
             safe,
             feed,
             pitch,
+            pocket,
+            over,
         } => {
             let job = Job {
                 units: shape.units,
@@ -76,7 +80,14 @@ fn run<D: Depot>(alloc: Global, request: &Request, depot: &mut D) -> Result<Vec<
                 limit: *limit,
                 step: *step,
             };
-            carve::run(alloc, shape, &job, *pitch, depot)
+            carve::run(
+                alloc,
+                shape,
+                &job,
+                *pitch,
+                carve::pocket_of(*pocket, *over),
+                depot,
+            )
         }
         Request::Cover {
             shape,
@@ -86,10 +97,11 @@ fn run<D: Depot>(alloc: Global, request: &Request, depot: &mut D) -> Result<Vec<
             pitch,
         } => cover::run(alloc, shape, code, &bit_of(*bit, *rmax), *pitch, depot),
         Request::Flatten { shape } => flatten::run(alloc, shape, depot),
+        Request::Trial { count } => trial::run(alloc, *count),
     }
 }
 
-/// The bit of a request's slope and greatest radius.
+/// The bit of a slope and its greatest radius.
 fn bit_of(bit: (u32, u32), rmax: u32) -> Bit
     requires { IsCone bit.0 bit.1 rmax }
     ensures { result ≡ cone_of bit rmax }

@@ -1,11 +1,12 @@
 // The drawing that a command's words name: loaded, read by its form, joined where it comes in loose segments, and refused where its
-// edges cross.
+// edges cross, unless the words take it by the even-odd rule.
 ghost use Rattle.std.specs.Prelude.{◌≡◌, ◌≢◌, ◌≤◌, ◌⊎◌, [], length, All, IfErr, MatchResult, unwrap_or};
 ghost use Rattle.std.specs.Str.{chars};
 ghost use Rattle.cxf_font.specs.Layouts.{IsLayout};
+ghost use Rattle.engrave_model.specs.Drawing.{edges_of};
 ghost use Rattle.engrave_model.specs.declared.TheConstants.{MOST_EDGES};
 ghost use Rattle.job_words.specs.Shape.{IsShapeInRange};
-ghost use Rattle.engrave_core.specs.Drawing.{IsDrawingOf, IsGuarded, IsReadWhere, ReadDrawing, cxf_read, drawing_of, dxf_read, is_yes, joined, justify_of, layout_of, loops_read, pbm_read, stored_drawing};
+ghost use Rattle.engrave_core.specs.Drawing.{IsDrawingOf, IsGuarded, IsReadWhere, IsRefusedCrossing, ReadDrawing, cxf_read, drawing_of, dxf_read, is_yes, joined, justify_of, layout_of, loops_read, pbm_read, stored_drawing};
 ghost use Rattle.engrave_core.specs.Loaded.{drawing_in, drawing_read};
 ghost use Rattle.engrave_core.specs.Outcome.{outcome_of};
 ghost use Rattle.engrave_core.specs.Refusals.{IsRefusalOfCxf, IsRefusalOfDrawing, IsRefusalOfDxf, IsRefusalOfEdges, IsRefusalOfFile, IsRefusalOfForm, IsRefusalOfPbm, IsRefusalOfSegments};
@@ -19,7 +20,7 @@ use cxf_font::{Justify, Layout, lay, read_font};
 use depth_rule::Scene;
 use dxf_outline::read_dxf;
 use engrave_model::MOST_EDGES;
-use job_words::{DrawingWords, FormWord, JustifyWord, YesNo};
+use job_words::{CrossWord, DrawingWords, FormWord, JustifyWord, YesNo};
 use loop_join::{join, snap};
 use loops_text::{Drawing, MOST_DRAWING_BYTES, read_loops};
 use pbm_edges::{edges, read_pbm};
@@ -27,7 +28,7 @@ use plane_exact::Seg;
 use shop_port::Depot;
 use std::alloc::Global;
 
-/// A drawing, none of whose edges cross, ready to be asked.
+/// A drawing, ready to be asked. None of its edges cross, unless the words allow it.
 #[derive(Drop)]
 pub struct Loaded {
     pub scene: Scene,
@@ -54,7 +55,7 @@ pub fn load_drawing<D: Depot>(
     ensures refusal { IfErr result (λ refusal. IsRefusalOfDrawing shape.now (outcome_of refusal)) }
 {
     let read = load_any_drawing(alloc, shape, depot)?;
-    guard(alloc, read)
+    guard(alloc, read, shape.cross)
 }
 
 /// The same, whether or not its edges cross.
@@ -196,17 +197,27 @@ fn join_segments(alloc: Global, segs: &[Seg], skipped: Option<u32>) -> Result<Re
     })
 }
 
-/// The drawing, ready to be asked, or the refusal where two of its edges cross.
-fn guard(alloc: Global, read: Read) -> Result<Loaded, Refusal>
-    ensures value { IsReadWhere drawing_in (IsGuarded (drawing_read read)) result }
-    ensures refusal { IfErr result (λ refusal. IsRefusalOfEdges (outcome_of refusal)) }
+/// The drawing, ready to be asked, or the refusal where two of its edges cross and may not.
+fn guard(alloc: Global, read: Read, cross: CrossWord) -> Result<Loaded, Refusal>
+    ensures value { IsReadWhere drawing_in (IsGuarded cross (drawing_read read)) result }
+    ensures refusal { IfErr result (λ refusal. IsRefusalOfEdges cross (outcome_of refusal)) }
 {
     let scene = Scene::new(alloc, read.drawing)?;
-    match scene.first_crossing() {
+    match crossing_refused(&scene, cross) {
         Some((i, j)) => Err(Refusal::Input(InputFault::Cross(i, j))),
         None => Ok(Loaded {
             scene,
             skipped: read.skipped,
         }),
+    }
+}
+
+/// The first two edges that cross, where that is refused.
+fn crossing_refused(scene: &Scene, cross: CrossWord) -> Option<(u32, u32)>
+    ensures { IsRefusedCrossing cross (edges_of scene.now) result }
+{
+    match cross {
+        CrossWord::Refuse => scene.first_crossing(),
+        CrossWord::Evenodd => None,
     }
 }

@@ -3,7 +3,7 @@ ghost use Rattle.std.specs.Prelude.{◌≡◌, ◌⊎◌, map, string_bytes, IfS
 ghost use Rattle.job_words.specs.Request.{request_of};
 ghost use Rattle.shop_port.specs.Counts.{Rose};
 ghost use Rattle.shop_port.specs.Output.{Appended, AppendedPart};
-ghost use Rattle.engrave_core.specs.Due.{IsAccepted, IsAnswer, IsDue, IsGoodText, IsSafeRun, IsTrueReport, IsTrueRun};
+ghost use Rattle.engrave_core.specs.Due.{AsksForNoFile, IsAnswer, IsDue, IsGoodText, IsSafeRun, IsTrueReport, IsTrueRun};
 ghost use Rattle.engrave_core.specs.Stored.{IsCaused};
 ghost use Rattle.engrave_core.specs.Line.{line_of};
 ghost use Rattle.engrave_core.specs.Outcome.{IfAnswered, IfRefused, HasText};
@@ -62,9 +62,9 @@ pub fn engrave<D: Depot, S: Sink>(
         (result ≡ Outcome.Memory)
         ⊎ WritesDue (map string_bytes words.now) files result (S.written out.old) (S.written out.new)) }
 
-    // The answers that there are to words, whatever the files have; where the words aren't accepted, no file is asked for.
+    // The answers that there are to words, whatever the files have; where the words aren't accepted, or are about no file, none is asked for.
     ensures answers { IsAnswer (request_of (map string_bytes words.now)) result }
-    ensures untouched { ¬ IsAccepted (map string_bytes words.now) → depot.new ≡ depot.old }
+    ensures untouched { AsksForNoFile (request_of (map string_bytes words.now)) → depot.new ≡ depot.old }
 
     // A refusal writes its own line and nothing else.
     ensures refused { IfRefused result (Appended (S.written out.old) (S.written out.new) (line_of result)) }
@@ -97,7 +97,7 @@ fn decide<D: Depot>(alloc: Global, words: &[String], depot: &mut D) -> Result<Re
     ensures writes { IfOk result (λ reply. HasText reply.outcome) }
     ensures answers { IfOk result (λ reply. IsAnswer (request_of (map string_bytes words.now)) reply.outcome) }
     ensures caused { IfOk result (λ reply. IsCaused (D.faults depot.old) (D.faults depot.new) (D.misses depot.old) (D.misses depot.new) reply.outcome) }
-    ensures untouched { ¬ IsAccepted (map string_bytes words.now) → depot.new ≡ depot.old }
+    ensures untouched { AsksForNoFile (request_of (map string_bytes words.now)) → depot.new ≡ depot.old }
     ensures unchanged { D.held depot.new ≡ D.held depot.old }
 {
     match answer(alloc, words, depot) {

@@ -1,88 +1,53 @@
 -- What is due for `carve`: the G-code program of the drawing's plan, with the report on what it leaves uncut. And what is known of it.
-use Rattle.std.specs.Prelude.{◌≡◌, ◌≢◌, ◌⊎◌, ◌++◌, ℕ, List, Ok}
-use Rattle.carve_plan.specs.Fault.{IsPlanFault}
-use Rattle.carve_plan.specs.Law.{CarvesWell}
-use Rattle.carve_plan.specs.Plan.{IsPlan}
-use Rattle.carve_plan.specs.declared.fault.PlanFault.{PlanFault}
-use Rattle.carve_plan.specs.declared.fault.PlanFault.TheVariants.{Memory}
-use Rattle.coverage_report.specs.Report.{HasManyPoints, IsReportOn}
-use Rattle.gcode_text.specs.Moves.{moves_of}
-use Rattle.gcode_text.specs.Path.{chain_moves, closing_text, program_text}
+use Rattle.std.specs.Prelude.{◌≡◌, ◌⊎◌, ℕ, List, None, Ok, Some}
+use Rattle.carve_plan.specs.Plan.{AskedPocket}
+use Rattle.cleanup_pocket.specs.declared.axis.Way.TheVariants as way
 use Rattle.gcode_text.specs.declared.job.Job.{Job}
 use Rattle.grid_num.specs.declared.units.Units.{Units}
 use Rattle.job_words.specs.declared.request.DrawingWords.{DrawingWords}
+use Rattle.job_words.specs.declared.request.PocketWord.{PocketWord}
+use Rattle.job_words.specs.declared.request.PocketWord.TheVariants as word
 use Rattle.plane_exact.specs.Cone.{Cone}
 use Rattle.plane_exact.specs.Nodes.{GridNode}
 use Rattle.plane_exact.specs.Plane.{GridPoint}
 use Rattle.plane_exact.specs.Uncut.{UncutPoints}
-use Rattle.plane_exact.specs.declared.moves.LineMove.{LineMove}
 use Rattle.engrave_core.specs.Drawing.{IsDrawingOf, IsGivenByDrawing, ReadDrawing}
-use Rattle.engrave_core.specs.Given.{Refuses}
+use Rattle.engrave_core.specs.Programs.{IsGoodProgram, IsProgramOf, IsRefusalOfProgram, IsUnprogrammed}
+use Rattle.engrave_core.specs.Refusals.{IsRefusalOfDrawing}
 use Rattle.engrave_core.specs.Stored.{Files}
-use Rattle.engrave_core.specs.Refusals.{IsRefusalOfPlan, IsRefusalOfReport, IsRefusalOfDrawing, plan_refusal}
-use Rattle.engrave_core.specs.declared.outcome.InputFault.TheVariants.{TooMany}
-use Rattle.engrave_core.specs.declared.outcome.Kind.TheVariants.{Points}
 use Rattle.engrave_core.specs.declared.outcome.Outcome.{Outcome}
 use Rattle.engrave_core.specs.declared.outcome.Outcome.TheVariants.{Done}
-use Rattle.engrave_core.specs.declared.refusal.Refusal.TheVariants.{Input}
 
 -- the job of the words
 abbrev pub job_of : Units → Cone → (step limit safe feed : ℕ) → Job
 job_of units bit step limit safe feed = record { units = units; safe = safe; feed = feed; bit = bit; limit = limit; step = step }
 
--- the text ends with the report, a note a line, and the program's end
-pub record EndsWith (uncut : UncutPoints) (text : List ℕ) : Type 0 where
-  pub front : List ℕ
-  pub is : text ≡ front ++ closing_text uncut
+-- the pocket of the words
+abbrev pub pocket_of : PocketWord → (over : ℕ) → AskedPocket
+pocket_of word.NoPocket over = None
+pocket_of word.X over = Some (way.X, over)
+pocket_of word.Y over = Some (way.Y, over)
+pocket_of word.Both over = Some (way.Both, over)
 
--- The text, read back in the job's units, is a program that is called clear for the drawing; no moment of it removes a point outside;
--- at each contact some move goes as deep as fits at the centre of its greatest disc; and the points that it prints as uncut are exactly
--- those of the report inside the drawing that no moment of these moves removes.
-pub record IsGoodProgram (job : Job) (pitch : ℕ) (loops : List (List GridPoint)) (text : List ℕ) : Type 0 where
-  pub moves : List LineMove
-  pub read : moves_of job.units text ≡ Ok moves
-  pub carves : CarvesWell loops job.bit job.limit job.step moves
-  pub uncut : UncutPoints
-  pub report : IsReportOn loops job.bit moves pitch uncut
-  pub printed : EndsWith uncut text
-
--- Done, with the program of the drawing's plan and the report on its moves; and it is a good one
-pub record IsCarved (job : Job) (pitch : ℕ) (loops : List (List GridPoint)) (outcome : Outcome) (text : List ℕ) : Type 0 where
+-- Done, with the program of the drawing's plan and the report on its moves
+pub record IsCarved (job : Job) (pitch : ℕ) (asked : AskedPocket) (loops : List (List GridPoint)) (outcome : Outcome) (text : List ℕ) : Type 0 where
   pub plan : List (List GridNode)
-  pub is : IsPlan loops job.bit job.limit job.step plan
   pub uncut : UncutPoints
-  pub report : IsReportOn loops job.bit (chain_moves job plan) pitch uncut
+  pub program : IsProgramOf job pitch asked loops plan uncut text
   pub done : outcome ≡ Done
-  pub program : text ≡ program_text job plan uncut
-  pub good : IsGoodProgram job pitch loops text
-
--- the refusal of a drawing that has no plan, which isn't running out of memory
-pub record IsRefusedPlan (job : Job) (loops : List (List GridPoint)) (outcome : Outcome) (text : List ℕ) : Type 0 where
-  pub fault : PlanFault
-  pub told : fault ≢ Memory
-  pub is : IsPlanFault loops job.bit job.limit job.step fault
-  pub refuses : Refuses (plan_refusal fault) outcome text
-
--- the refusal of a report of too many points, where there is a plan
-pub record IsUnreported (job : Job) (pitch : ℕ) (loops : List (List GridPoint)) (outcome : Outcome) (text : List ℕ) : Type 0 where
-  pub plan : List (List GridNode)
-  pub is : IsPlan loops job.bit job.limit job.step plan
-  pub many : HasManyPoints loops pitch
-  pub refuses : Refuses (Input (TooMany Points)) outcome text
 
 -- the program, or the refusal of the plan, or of the report
-abbrev pub IsCarvedOrRefused : Job → (pitch : ℕ) → List (List GridPoint) → Outcome → List ℕ → Type 0
-IsCarvedOrRefused job pitch loops outcome text =
-    IsCarved job pitch loops outcome text ⊎ (IsRefusedPlan job loops outcome text ⊎ IsUnreported job pitch loops outcome text)
+abbrev pub IsCarvedOrRefused : Job → (pitch : ℕ) → AskedPocket → List (List GridPoint) → Outcome → List ℕ → Type 0
+IsCarvedOrRefused job pitch asked loops outcome text = IsCarved job pitch asked loops outcome text ⊎ IsUnprogrammed job pitch asked loops outcome text
 
 -- what is due for the drawing, or the refusal of it
-abbrev pub IsDueOfCarve : Files → DrawingWords → Job → (pitch : ℕ) → Outcome → List ℕ → Type 0
-IsDueOfCarve files shape job pitch outcome text =
-    IsGivenByDrawing (λ drawing. IsCarvedOrRefused job pitch drawing.loops) files shape outcome text
+abbrev pub IsDueOfCarve : Files → DrawingWords → Job → (pitch : ℕ) → AskedPocket → Outcome → List ℕ → Type 0
+IsDueOfCarve files shape job pitch asked outcome text =
+    IsGivenByDrawing (λ drawing. IsCarvedOrRefused job pitch asked drawing.loops) files shape outcome text
 
 -- the refusals of the drawing, of its plan and of the report
 abbrev pub IsRefusalOfCarve : DrawingWords → Outcome → Type 0
-IsRefusalOfCarve shape outcome = IsRefusalOfDrawing shape outcome ⊎ (IsRefusalOfPlan outcome ⊎ IsRefusalOfReport outcome)
+IsRefusalOfCarve shape outcome = IsRefusalOfDrawing shape outcome ⊎ IsRefusalOfProgram outcome
 
 -- the words name a drawing, and the text is a good program for it
 pub record StoresWellCarved (files : Files) (shape : DrawingWords) (job : Job) (pitch : ℕ) (text : List ℕ) : Type 0 where
