@@ -147,6 +147,15 @@ def repeated(rng, reach):
     return [loop, rng.choice([again, again[::-1]])] + ([any_loop(rng, reach)] if rng.random() < 0.5 else [])
 
 
+def neighbours(rng, reach):
+    """Two plates that share a side, or a part of an upright one; often a loop over both."""
+    (x, y), (v, w) = (-rng.randint(1, reach), -rng.randint(1, reach)), (rng.randint(1, reach), rng.randint(1, reach))
+    lean = rng.choice([0, 0, 1, -1, 2])
+    low, high = (y, w) if lean else rng.choice([(y, w), (y + 1, w), (y - 1, w), (y, w + 2)])
+    loops = [[(x, y), (0, y), (lean, w), (x, w)], [(0, low), (v, low), (v, high), (lean, high)]]
+    return loops + ([rng.choice([star, rectangle])(rng, reach)] if rng.random() < 0.5 else [])
+
+
 def far(rng, reach):
     return [wide(rng, reach) for _ in range(rng.randint(1, 2))]
 
@@ -161,7 +170,7 @@ def empty(*_):
     return []
 
 
-DRAWINGS = {alone: 30, several: 20, nested: 20, apart: 40, pinned: 40, touching: 12, repeated: 8, far: 8, cornered: 4, empty: 1}
+DRAWINGS = {alone: 30, several: 20, nested: 20, apart: 40, pinned: 40, touching: 12, repeated: 8, neighbours: 16, far: 8, cornered: 4, empty: 1}
 
 
 def as_loop(points):
@@ -261,6 +270,41 @@ def carving_step(rng, edges):
     return min(rng.choice(few or [2 * longest + 1]), MOST)
 
 
+# how many points there are at most on the lines of a pocket
+MOST_MILLED = 400
+
+
+def milling(rng, loops):
+    """The way of a pocket, and a distance of its lines that gives few points on them: where there is none, no pocket."""
+    xs, ys = zip(*(p for loop in loops for p in loop)) if loops else ((0,), (0,))
+    wide, high = max(xs) - min(xs) + 1, max(ys) - min(ys) + 1
+    points = {"none": lambda over: 0, "x": lambda over: wide * (high // over + 1), "y": lambda over: high * (wide // over + 1)}
+    points["both"] = lambda over: points["x"](over) + points["y"](over)
+    way, overs = rng.choice(["none", "none", "x", "y", "both", "both"]), [1, 1, 2, 3, rng.randint(1, 40), rng.randint(1, 8191)]
+    few = [over for over in overs if points[way](over) <= MOST_MILLED]
+    return (way, rng.choice(few)) if few else ("none", rng.choice(overs))
+
+
+def flat_limit(rng, cone, reach):
+    """A limit that often leaves a flat floor: the bit's radius there is no more than a third of the drawing's reach, or half a unit."""
+    widest = rng.choice([reach / 3, reach / 6, 0.5])
+    return min(max(int(widest * cone.sd / cone.sn), 1), 400)
+
+
+def job_of(cone, limit, step, way, over):
+    return Job("mm100", cone, limit, step, 200, 500, way, over)
+
+
+# Drawings with pockets, each of which tells what random ones seldom do: a square; a diamond whose columns begin equally far from X0 Y0 in
+# pairs; a row that a corner of a hole parts by one point; and two plates whose common side passes between two points of a row.
+WORKED = [
+    ([[(0, 0), (10, 0), (10, 10), (0, 10)]], job_of(Bit(1, 1, 2), 2, 10, "both", 3)),
+    ([[(7, 0), (14, 7), (7, 14), (0, 7)]], job_of(Bit(1, 1, 1), 1, 14, "y", 3)),
+    ([[(0, 0), (12, 0), (12, 6), (0, 6)], [(6, 3), (7, 5), (5, 5)]], job_of(Bit(1, 2, 1), 1, 12, "x", 3)),
+    ([[(-4, 0), (0, 0), (1, 10), (-4, 10)], [(0, 0), (4, 0), (4, 10), (1, 10)]], job_of(Bit(1, 2000, 1), 1, 10, "x", 5)),
+]
+
+
 def carved(rng, loops, reach):
     """A drawing to be carved, this one or an elbow, and the job."""
     cone = bit(rng, reach)._replace(rmax=small_radius(rng, min(reach, 20)))
@@ -269,7 +313,10 @@ def carved(rng, loops, reach):
         (loops, cone), limit = elbow(rng), MOST_DEPTH
     safe = rng.choice([200, 200, 1, MOST, rng.randint(1, MOST)])
     feed = rng.choice([500, 500, 1, 10_000, rng.randint(1, 10_000)])
-    return loops, Job(rng.choice(list(UNITS)), cone, limit, carving_step(rng, edges_of(loops)), safe, feed)
+    way, over = milling(rng, loops)
+    if way != "none":
+        limit = rng.choice([min(limit, 400), flat_limit(rng, cone, reach), flat_limit(rng, cone, reach)])
+    return loops, Job(rng.choice(list(UNITS)), cone, limit, carving_step(rng, edges_of(loops)), safe, feed, way, over)
 
 
 def box(edges, margin):

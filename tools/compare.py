@@ -22,7 +22,9 @@ import cases
 import definitions
 import form_cases
 import forms
+import joining
 import sampling
+import trial
 from definitions import MOST_DEPTH, Bit
 from wrong_definitions import WRONG
 from wrong_forms import WRONG_FORMS
@@ -41,14 +43,15 @@ LONGEST_FOR_SLIM = 2000
 # drawing; and to how many codes that are checked there is one that is covered
 DEPTHS, CODES, LISTED, STEPS, DISCS, CARVED, PER_COVERED = 12, 14, 2, 2, 6, 1, 3
 
-# how many files in each form there are for each drawing, and how often a drawing that crosses itself is made anew
-FORMED, ANEW = 5, 30
+# how many files in each form there are for each drawing; how often a drawing that crosses itself is made anew, and how many of a
+# hundred of these are taken; and of how many cells there is a trial
+FORMED, ANEW, CROSSED, TRIALS = 5, 30, 20, (1, 2)
 
 SPARED, WITHIN = "clear: edges of which no sampled point is removed", "clear: removed points that are inside"
 CARVED_MOVES, CARVED_CLEAR = "carve: the moves of the program", "carve: the program is called clear"
-COMPARED = ["crossing", "inside", "depth", "contacts", "discs", "moves", "check", "cover", SPARED, WITHIN, "carve", CARVED_MOVES, CARVED_CLEAR]
+COMPARED = ["crossing", "taken", "inside", "depth", "contacts", "discs", "moves", "check", "cover", SPARED, WITHIN, "carve", CARVED_MOVES, CARVED_CLEAR]
 AGAIN, ALIKE = "flatten: what was written, again", "the same answer for a file and what it is flattened to"
-COMPARED += [f"flatten: {form}" for form in form_cases.MAKERS] + [AGAIN, ALIKE]
+COMPARED += [f"flatten: {form}" for form in form_cases.MAKERS] + [AGAIN, ALIKE, "trial"]
 
 
 class Comparison:
@@ -61,15 +64,16 @@ class Comparison:
         self.compared, self.differing, self.spread, self.differences = Counter(), Counter(), Counter(), []
         self.kind, self.reach, self.loops, self.edges, self.crossing = self.made()
         self.drawing = self.write("drawing.loops", cases.loops_text(self.rng, self.loops))
-        self.spread[f"drawing: {self.kind}"] += 1
+        self.cross = ["--cross=evenodd"] if self.crossing else self.rng.choice([*[[]] * 8, ["--cross=refuse"], ["--cross=evenodd"]])
+        self.spread[f"drawing: {self.kind}{', crossing' if self.crossing else ''}"] += 1
 
     def made(self):
         """A drawing, its edges, and the first two that cross: none does in most."""
         for _ in range(ANEW):
             kind, reach, loops = cases.drawing(self.rng)
             edges = definitions.edges_of(loops)
-            crossing = forms.first_crossing(edges)
-            if crossing is None or self.rng.random() < 0.05:
+            crossing = joining.first_crossing(edges)
+            if crossing is None or self.rng.randrange(100) < CROSSED:
                 break
         return kind, reach, loops, edges, crossing
 
@@ -79,9 +83,7 @@ class Comparison:
         return path
 
     def run(self, *words):
-        """The status and the text of a run of the program."""
-        done = subprocess.run([self.program, *words], stdout=subprocess.PIPE, stderr=subprocess.DEVNULL)
-        return done.returncode, done.stdout.decode()
+        return answer(self.program, *words)
 
     def agree(self, what, due, got, *inputs):
         self.compared[what] += 1
@@ -93,7 +95,7 @@ class Comparison:
             self.differences.append("\n".join(lines + [f"--- {path}\n{path.read_bytes().decode(errors='backslashreplace')}" for path in files]))
 
     def geometry(self, bit):
-        return [f"--drawing={self.drawing}", f"--bit={bit.sn}/{bit.sd}", f"--rmax={bit.rmax}"]
+        return [f"--drawing={self.drawing}", *self.cross, f"--bit={bit.sn}/{bit.sd}", f"--rmax={bit.rmax}"]
 
     def probe(self, what, bit, p, limit, due):
         words = ["probe", *self.geometry(bit), f"--at={p[0]},{p[1]}"]
@@ -147,7 +149,7 @@ class Comparison:
         """All contacts, or their refusal, and the discs at some of them."""
         for _ in range(STEPS):
             step, rmax = cases.step(self.rng, self.edges), cases.small_radius(self.rng, self.reach)
-            words = ["contacts", f"--drawing={self.drawing}", f"--step={step}", f"--rmax={rmax}"]
+            words = ["contacts", f"--drawing={self.drawing}", *self.cross, f"--step={step}", f"--rmax={rmax}"]
             fine = definitions.first_too_fine(self.edges, step)
             if fine is not None:
                 self.agree("contacts", (3, f"input step too fine {fine}\n"), self.run(*words), *words)
@@ -180,28 +182,35 @@ class Comparison:
 
     def compare_carved(self):
         for number in range(CARVED):
-            loops, job = cases.carved(self.rng, self.loops, self.reach)
-            drawing = self.write(f"carved{number}.loops", cases.loops_text(self.rng, loops))
-            common = [f"--drawing={drawing}", f"--bit={job.bit.sn}/{job.bit.sd}", f"--rmax={job.bit.rmax}"]
-            words = ["carve", *common, f"--step={job.step}", *self.carving_options(job)]
-            fine = definitions.first_too_fine(definitions.edges_of(loops), job.step)
-            if fine is not None:
-                self.agree("carve", (3, f"input step too fine {fine}\n"), self.run(*words), *words)
-                self.spread["carve: step too fine"] += 1
-                continue
-            chains, pitch = definitions.plan(loops, job.bit, job.limit, job.step), cases.pitch(self.rng, loops)
-            report = definitions.uncut(loops, job.bit, definitions.code_moves(job, chains), pitch)
-            words += [f"--pitch={pitch}"]
-            got = self.run(*words)
-            self.agree("carve", (0, definitions.code_text(job, chains, report)), got, *words)
-            self.spread_of_report("carve", report)
-            self.spread_of(chains)
-            if got[0] == 0:
-                self.read_carved(job, chains, common, self.write(f"carved{number}.ngc", got[1]))
+            self.compare_carving(number, self.cross, *cases.carved(self.rng, self.loops, self.reach))
+        if self.number == 0:
+            for number, (loops, job) in enumerate(cases.WORKED, CARVED):
+                self.compare_carving(number, ["--cross=evenodd"], loops, job)
+
+    def compare_carving(self, number, cross, loops, job):
+        drawing = self.write(f"carved{number}.loops", cases.loops_text(self.rng, loops))
+        common = [f"--drawing={drawing}", *cross, f"--bit={job.bit.sn}/{job.bit.sd}", f"--rmax={job.bit.rmax}"]
+        words = ["carve", *common, f"--step={job.step}", *self.carving_options(job)]
+        fine = definitions.first_too_fine(definitions.edges_of(loops), job.step)
+        if fine is not None:
+            self.agree("carve", (3, f"input step too fine {fine}\n"), self.run(*words), *words)
+            self.spread["carve: step too fine"] += 1
+            return
+        chains, pitch = definitions.plan(loops, job), cases.pitch(self.rng, loops)
+        report = definitions.uncut(loops, job.bit, definitions.code_moves(job, chains), pitch)
+        words += [f"--pitch={pitch}"]
+        got = self.run(*words)
+        self.agree("carve", (0, definitions.code_text(job, chains, report)), got, *words)
+        self.spread_of_report("carve", report)
+        self.spread_of(chains)
+        self.spread_of_floors(loops, job)
+        if got[0] == 0:
+            self.read_carved(job, chains, common, self.write(f"carved{number}.ngc", got[1]))
 
     def carving_options(self, job):
         """The other options, some of them left out where they are what holds then."""
         options = {"limit": (job.limit, MOST_DEPTH), "safe": (job.safe, 200), "feed": (job.feed, 500), "units": (job.units, "mm100")}
+        options |= {"pocket": (job.pocket, "none"), "over": (job.over, 50)}
         return [f"--{name}={value}" for name, (value, usual) in options.items() if value != usual or self.rng.random() < 0.5]
 
     def read_carved(self, job, chains, common, path):
@@ -230,6 +239,13 @@ class Comparison:
         self.spread["carve, in all: nodes"] += sum(map(len, chains))
         self.spread["carve, in all: chains below the surface"] += sum(depth > 0 for depth in depths)
         self.spread["carve, in all: chains at the surface"] += sum(depth == 0 for depth in depths)
+
+    def spread_of_floors(self, loops, job):
+        if job.pocket != "none":
+            chains = definitions.pocket(loops, job.bit, job.limit, job.over, job.pocket)
+            self.spread[f"carve: pocket {job.pocket}, {'some' if chains else 'no'} chain"] += 1
+            self.spread["carve, in all: runs of one point"] += sum(len(chain) == 1 for chain in chains)
+            self.spread["carve, in all: longer runs"] += sum(len(chain) > 1 for chain in chains)
 
     def compare_checks(self, inside):
         for number in range(CODES):
@@ -272,12 +288,14 @@ class Comparison:
         self.spread[f"witness: {fault}, {'found' if found else 'not found'}"] += 1
 
     def compare_crossing(self):
-        """Each command refuses a drawing that crosses itself, before it looks for the G-code program."""
-        bit = ["--bit=1/1", "--rmax=100"]
+        """Each command refuses a drawing that crosses itself, before it looks for the G-code program; by the even-odd rule it is taken."""
+        bit, asked = ["--bit=1/1", "--rmax=100"], self.rng.choice([[], [], ["--cross=refuse"]])
         commands = {"flatten": [], "probe": [*bit, "--at=0,0"], "contacts": ["--step=7", "--rmax=9"], "carve": [*bit, "--step=7"]}
         for name, options in {**commands, "check": [*bit, "--code=none"], "cover": [*bit, "--code=none"]}.items():
-            words = [name, f"--drawing={self.drawing}", *options]
+            words = [name, f"--drawing={self.drawing}", *asked, *options]
             self.agree("crossing", (3, "input cross %d,%d\n" % self.crossing), self.run(*words), *words)
+        words = ["flatten", f"--drawing={self.drawing}", *self.cross]
+        self.agree("taken", (0, forms.loops_text(self.loops)), self.run(*words), *words)
 
     def compare_formed(self):
         for form in form_cases.MAKERS:
@@ -298,20 +316,19 @@ class Comparison:
 
     def compare_again(self, path, options, text):
         """What is written is the drawing, in loops form."""
-        flat = self.write(path.name + ".loops", text)
+        flat, cross = self.write(path.name + ".loops", text), [option for option in options if option.startswith("--cross=")]
         lines = [line for line in text.splitlines(keepends=True) if not line.startswith("#")]
-        self.agree(AGAIN, (0, "".join(lines)), self.run("flatten", f"--drawing={flat}"), "flatten", *options, flat)
+        self.agree(AGAIN, (0, "".join(lines)), self.run("flatten", f"--drawing={flat}", *cross), "flatten", *options, flat)
         x, y = self.rng.choice([point for line in lines for point in line.split()] or ["0,0"]).split(",")
         near = cases.on_grid(*(int(z) + self.rng.randint(-9, 9) for z in (x, y)))
         for command in (["probe", "--at=%d,%d" % near, "--bit=1/3", "--rmax=99"], ["contacts", "--step=9", "--rmax=31"]):
-            self.agree(ALIKE, self.run(*command, f"--drawing={flat}"), self.run(*command, *options), *command, *options, flat)
+            self.agree(ALIKE, self.run(*command, f"--drawing={flat}", *cross), self.run(*command, *options), *command, *options, flat)
 
     def whole(self):
         if not self.forms_alone:
-            if self.crossing is None:
-                self.compare_drawing()
-            else:
+            if self.crossing:
                 self.compare_crossing()
+            self.compare_drawing()
             self.compare_listed()
         self.compare_formed()
         return self.done()
@@ -327,6 +344,12 @@ class Comparison:
         if not self.differences:
             shutil.rmtree(self.folder)
         return self
+
+
+def answer(program, *words):
+    """The status and the text of a run of the program."""
+    done = subprocess.run([program, *words], stdout=subprocess.PIPE, stderr=subprocess.DEVNULL)
+    return done.returncode, done.stdout.decode()
 
 
 RANGED = tuple(f"--{name}=" for name in form_cases.RANGES)
@@ -371,15 +394,25 @@ def failing_tests(bit, mv, edge):
 
 
 def take_wrong(kind):
+    """Puts the wrong definition where the right one stands."""
     if kind in WRONG:
         setattr(definitions, *WRONG[kind])
     elif kind:
-        setattr(forms, *WRONG_FORMS[kind])
+        name, wrong = WRONG_FORMS[kind]
+        setattr(joining if hasattr(joining, name) else forms, name, wrong)
 
 
 def compare_case(arguments):
     case = Comparison(*arguments).whole()
     return case.number, case.compared, case.differing, case.spread, case.differences
+
+
+def compare_trial(program, cells):
+    """The trial of so many cells, whose text takes the definitions some minutes."""
+    words = ["trial", f"--count={cells}"]
+    due, got = (0, trial.trial_text(cells)), answer(program, *words)
+    differences = [] if due == got else [f"trial differs: {' '.join(words)}\ndue: {due}\ngot: {got}"]
+    return " ".join(words), Counter(trial=1), Counter(trial=len(differences)), Counter(), differences
 
 
 def results(options, folder, kind=None):
@@ -388,7 +421,11 @@ def results(options, folder, kind=None):
     numbers = range(options.cases) if options.case is None else [options.case]
     try:
         alone = options.forms or kind in WRONG_FORMS
-        yield from pool.map(compare_case, ((options.program, folder, options.seed, n, alone) for n in numbers), chunksize=4)
+        each = pool.map(compare_case, ((options.program, folder, options.seed, n, alone) for n in numbers), chunksize=4)
+        # Last, since the definitions take so long for them.
+        trials = [] if alone or kind or options.case is not None else [pool.submit(compare_trial, options.program, cells) for cells in TRIALS]
+        yield from each
+        yield from (trial_of.result() for trial_of in trials)
     finally:
         pool.shutdown(cancel_futures=True)
 

@@ -13,6 +13,12 @@ MOST_DEPTH = 32767
 MOST_PIECES = 8192
 MOST_HALVED = 8
 
+MOST_CHAINS = 131_072
+MOST_NODES = 4_194_304
+
+# along which axes the lines of a pocket go, for each --pocket: 0 for rows, 1 for columns
+WAYS = {"none": [], "x": [0], "y": [1], "both": [0, 1]}
+
 # how many zeros a length's unit has, and the word of that unit, for each --units
 ZEROS = {"mm10": 1, "mm100": 2, "mm1000": 3, "in100": 2, "in1000": 3}
 UNIT_WORDS = {units: "G20" if units.startswith("in") else "G21" for units in ZEROS}
@@ -91,6 +97,8 @@ class Job(NamedTuple):
     step: int
     safe: int
     feed: int
+    pocket: str = "none"
+    over: int = 50
 
 
 class Uncut(NamedTuple):
@@ -524,11 +532,78 @@ def ordered(chains):
     return [chains[number] for number in order]
 
 
-def plan(loops, bit, limit, step):
-    """The chains of all loops, in the order in which they are cut."""
+def loop_chains(loops, bit, limit, step):
+    """The chains of all loops, in their order."""
     edges = edges_of(loops)
     rounds = nodes_round(loops, bit, limit, step)
-    return ordered([chain for nodes in rounds for chain in chains_round(edges, bit, limit, nodes)])
+    return [chain for nodes in rounds for chain in chains_round(edges, bit, limit, nodes)]
+
+
+def deepest_allowed(bit, limit):
+    """The greatest depth up to the limit at which the bit isn't wider than its greatest radius."""
+    return min(limit, bit.sd * bit.rmax // bit.sn)
+
+
+def point_on(axis, line, place):
+    """The point of a row at this x, or of a column at this y."""
+    return (place, line) if axis == 0 else (line, place)
+
+
+def is_joined(edges, bit, p, q):
+    """The nodes are neighbours on a line, and the move between them is clear."""
+    return squared_distance(p.at, q.at) == 1 and is_straight(edges, bit, p, q)
+
+
+def runs_along(edges, bit, nodes):
+    """The nodes of a line in runs, as long as can be, in each of which every node is joined to the next."""
+    runs = []
+    for node in nodes:
+        if runs and is_joined(edges, bit, runs[-1][-1], node):
+            runs[-1].append(node)
+        else:
+            runs.append([node])
+    return runs
+
+
+def ends_of_run(run):
+    """The chain along a run: its two ends, or its one node."""
+    return [run[0]] if len(run) == 1 else [run[0], run[-1]]
+
+
+def line_chains(edges, bit, limit, axis, line, places):
+    """The chains of one line: along the runs of the points whose greatest depth is the greatest that is allowed."""
+    nodes = [deepest(edges, bit, limit, point_on(axis, line, place)) for place in places]
+    good = [node for node in nodes if node.depth == deepest_allowed(bit, limit)]
+    return [ends_of_run(run) for run in runs_along(edges, bit, good)]
+
+
+def axis_chains(loops, bit, limit, over, axis):
+    """Those of all rows, or of all columns, whose coordinate is a multiple of `over`; none where nothing is drawn."""
+    along, across = ([point[i] for loop in loops for point in loop] for i in (axis, 1 - axis))
+    lines = multiples(over, min(across), max(across)) if across else []
+    places = range(min(along), max(along) + 1) if along else []
+    return [chain for line in lines for chain in line_chains(edges_of(loops), bit, limit, axis, line, places)]
+
+
+def pocket(loops, bit, limit, over, way):
+    """The chains that mill the flat floors that the greatest allowed depth leaves."""
+    if deepest_allowed(bit, limit) == 0:
+        return []
+    return [chain for axis in WAYS[way] for chain in axis_chains(loops, bit, limit, over, axis)]
+
+
+def plan_fault(round_loops, floors):
+    """Of what there is too much, in the chains of loops and those of pockets; None where there isn't."""
+    counted = round_loops + (floors if len(floors) <= MOST_CHAINS else [])
+    if sum(map(len, counted)) > MOST_NODES:
+        return "too many nodes"
+    return "too many chains" if len(round_loops + floors) > MOST_CHAINS else None
+
+
+def plan(loops, job):
+    """The chains of all loops and then of the pocket, in the order in which they are cut."""
+    round_loops = loop_chains(loops, job.bit, job.limit, job.step)
+    return ordered(round_loops + pocket(loops, job.bit, job.limit, job.over, job.pocket))
 
 
 def length_text(units, length):

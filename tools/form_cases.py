@@ -3,7 +3,8 @@
 import math
 
 import cases
-from forms import UNITS, Words, circle_point, edges_of, first_crossing, turn_of
+from forms import UNITS, Words, circle_point, turn_of
+from joining import edges_of, first_crossing
 
 NOT_NUMBERS = ["", "x", "1,5", "--1", "+-1", "1e", "e1", ".", "-", "1.2.3", "1e1e1", "1e+", "1e1234", "1 0", "0x10", "9" * 28, "1." + "1" * 27, "inf"]
 FAR_NUMBERS = ["1e300", "-1e99", "9007199254740993", "1e9", "-400", "327.675", "3276.75", "32.7675", "-327.685", "-1", "100001", "10000.1", "1000.0000005", "99999e9"]
@@ -361,7 +362,7 @@ def pbm_file(rng, words):
 def loops_file(rng, words):
     for _ in range(30):
         _, _, loops = cases.drawing(rng)
-        if first_crossing(edges_of(loops)) is None or rng.random() < 0.04:
+        if first_crossing(edges_of(loops)) is None or rng.random() < (0.5 if words.cross == "evenodd" else 0.04):
             break
     return cases.loops_text(rng, loops).encode()
 
@@ -392,7 +393,7 @@ def mutated(rng, data):
 
 RANGES = {"chord": (1, 90), "snap": (0, 16), "pixel": (1, 1000), "height": (1, 32767), "width": (10, 500), "charspace": (0, 500), "wordspace": (0, 500), "linespace": (10, 500)}
 USUAL = {"chord": [90, 45, 10, 30, 1], "snap": [0, 1, 1, 2, 16], "pixel": [1, 10, 100], "height": [100, 300, 900, 9], "width": [100, 50], "charspace": [25, 0], "wordspace": [100, 0], "linespace": [150, 100]}
-NAMES = {"justify": ["left", "center", "right"], "mirror": ["no", "yes"], "flip": ["no", "yes"]}
+NAMES = {"justify": ["left", "center", "right"], "mirror": ["no", "yes"], "flip": ["no", "yes"], "cross": ["refuse", "evenodd", "evenodd"]}
 
 
 def words_for(rng, form):
@@ -431,6 +432,8 @@ def options_of(rng, words):
 
 
 def wrong_option(rng):
-    """An option whose value isn't in its range."""
+    """An option whose value isn't in its range, or isn't one of its words."""
+    if rng.random() < 0.2:
+        return f"--{rng.choice(list(NAMES))}={rng.choice(['', 'odd', 'none', 'Refuse'])}"
     name, (low, high) = rng.choice(list(RANGES.items()))
     return f"--{name}={rng.choice([low - 1, high + 1])}"

@@ -1,15 +1,16 @@
-"""The four forms of a drawing's file as plain programs: what each is read as, snapped, joined and guarded.
+"""The four forms of a drawing's file as plain programs: what each is read as, joined and guarded by joining.py.
 
 Whole numbers and fractions alone, without haste, and nothing taken from the tool's code. A point is a pair of numbers, a
 segment a pair of points. Points are in thousandths of a grid unit until they are taken to the grid.
 """
 
-from collections import Counter
-from fractions import Fraction
 from functools import cache
 from itertools import chain
 from math import isqrt
 from typing import NamedTuple
+
+import joining
+from joining import Refused
 
 LEAST, MOST = -32_768, 32_767
 MOST_SEGMENTS = 131_072
@@ -18,10 +19,6 @@ UNITS = {"mm10": 10, "mm100": 100, "mm1000": 1000, "in100": 100, "in1000": 1000}
 
 # a full turn in parts, and the length of a direction
 TURN, QUARTER, UNIT = 1 << 22, 1 << 20, 1 << 30
-
-
-class Refused(Exception):
-    """A line that refuses the file."""
 
 
 class Words(NamedTuple):
@@ -41,6 +38,7 @@ class Words(NamedTuple):
     justify: str = "left"
     mirror: str = "no"
     flip: str = "no"
+    cross: str = "refuse"
 
 
 # Numbers
@@ -438,7 +436,7 @@ class Dxf:
 
 def dxf(data, words):
     segments, skipped = Dxf(data, UNITS[words.units], words.chord).read()
-    return snapped(segments, words.snap), skipped
+    return joining.snapped(segments, words.snap), skipped
 
 
 # CXF
@@ -585,7 +583,7 @@ def lay(font, words):
 
 
 def cxf(data, words):
-    return snapped(lay(font_of(data), words), words.snap), None
+    return joining.snapped(lay(font_of(data), words), words.snap), None
 
 
 # PBM
@@ -698,58 +696,6 @@ def pbm(data, words):
     return [tuple((x * words.pixel, y * words.pixel) for x, y in ends) for ends in segments], None
 
 
-# Snapping and joining
-
-
-def is_near(p, q, tolerance):
-    return abs(p[0] - q[0]) <= tolerance and abs(p[1] - q[1]) <= tolerance
-
-
-def earliest_near(kept, p, tolerance):
-    return next((q for q in kept if is_near(p, q, tolerance)), None)
-
-
-def snapped(segments, tolerance):
-    """Each end becomes the earliest kept point near it, or is kept; what then has no length is dropped."""
-    kept, result = [], []
-    for ends in segments:
-        moved = []
-        for p in ends:
-            found = earliest_near(kept, p, tolerance)
-            if found is None:
-                kept.append(p)
-            moved.append(p if found is None else found)
-        if moved[0] != moved[1]:
-            result.append(tuple(moved))
-    return result
-
-
-def other_end(segment, p):
-    return segment[1] if segment[0] == p else segment[0]
-
-
-def first_with_end(segments, p):
-    """The number of the first segment that ends at the point."""
-    return next(i for i, ends in enumerate(segments) if p in ends)
-
-
-def joined(segments):
-    """The loops of the segments, each begun by the first that is left."""
-    degrees = Counter(p for ends in segments for p in ends)
-    for p in chain.from_iterable(segments):
-        if degrees[p] % 2:
-            raise Refused(f"input open {p[0]},{p[1]}")
-    loops, left = [], list(segments)
-    while left:
-        start, p = left.pop(0)
-        loop = [start]
-        while p != start:
-            loop.append(p)
-            p = other_end(left.pop(first_with_end(left, p)), p)
-        loops.append(loop)
-    return loops
-
-
 # Loops
 
 
@@ -802,70 +748,19 @@ def loops_read(data, words):
     return loops
 
 
-# The guard
+# All together
 
 
-def edges_of(loops):
-    return [(p, q) for loop in loops for p, q in zip(loop, loop[1:] + loop[:1])]
+def is_guarded(words):
+    """Edges that cross are refused, unless the even-odd rule is to decide what is inside."""
+    return words.cross != "evenodd"
 
 
-def cross(v, w):
-    return v[0] * w[1] - v[1] * w[0]
-
-
-def way(p, q):
-    return q[0] - p[0], q[1] - p[1]
-
-
-def box_of(ends):
-    (x, y), (v, w) = ends
-    return min(x, v), max(x, v), min(y, w), max(y, w)
-
-
-def are_apart(box, other):
-    return box[1] < other[0] or other[1] < box[0] or box[3] < other[2] or other[3] < box[2]
-
-
-def is_end_of_both(point, s, t):
-    return point in s and point in t
-
-
-def meets_wrongly(s, t):
-    """The segments, whose boxes meet, have a point in common that isn't an end of both, or more than one."""
-    along_s, along_t, between = way(*s), way(*t), way(s[0], t[0])
-    turned = cross(along_s, along_t)
-    if turned == 0:
-        if cross(along_s, between) != 0:
-            return False
-        # On one line and with boxes that meet: along the axis that they go along they have a point or more in common.
-        axis = 0 if along_s[0] else 1
-        low = max(min(end[axis] for end in ends) for ends in (s, t))
-        high = min(max(end[axis] for end in ends) for ends in (s, t))
-        return low < high
-    at_s, at_t = Fraction(cross(between, along_t), turned), Fraction(cross(between, along_s), turned)
-    if not (0 <= at_s <= 1 and 0 <= at_t <= 1):
-        return False
-    return not is_end_of_both((s[0][0] + at_s * along_s[0], s[0][1] + at_s * along_s[1]), s, t)
-
-
-def first_crossing(edges):
-    """The numbers of the first two edges that cross: the first number is the least there is, and then the second."""
-    boxes = [box_of(ends) for ends in edges]
-    for i, s in enumerate(edges):
-        for j in range(i + 1, len(edges)):
-            if not are_apart(boxes[i], boxes[j]) and meets_wrongly(s, edges[j]):
-                return i, j
-    return None
-
-
-def guarded(loops):
-    crossing = first_crossing(edges_of(loops))
+def guarded(loops, words):
+    crossing = joining.first_crossing(joining.edges_of(loops)) if is_guarded(words) else None
     if crossing:
         raise Refused("input cross %d,%d" % crossing)
     return loops
-
-
-# All together
 
 
 def drawing_of(data, words):
@@ -873,9 +768,9 @@ def drawing_of(data, words):
     if len(data) > MOST_BYTES:
         raise Refused("input too long drawing")
     if words.form == "loops":
-        return guarded(loops_read(data, words)), None
+        return guarded(loops_read(data, words), words), None
     segments, skipped = {"dxf": dxf, "cxf": cxf, "pbm": pbm}[words.form](data, words)
-    return guarded(joined(segments)), skipped
+    return guarded(joining.joined(segments), words), skipped
 
 
 def loops_text(loops):

@@ -1,12 +1,12 @@
 """Feeds the built program truncated, huge, binary and adversarial words, drawings of each form and code, and checks how each run ends.
 
-    python3 tools/hostile.py [--runs N] [--seed N] [--program PATH] [--huge]      (on Linux)
+    python3 tools/hostile.py [--runs N] [--seeds N ..] [--minutes N] [--program PATH] [--huge]      (on Linux)
 
 Each run has to end with a status and the text that the manual gives it, with nothing on standard error, within the stated
-memory and time. What is due is written in hostile_rows.py, or read apart from the program by hostile_expected.py; else the
-form of the text is judged alone. It prints a line for each part; the files of a run that ends otherwise are kept. With
---huge the largest inputs are run instead, which takes some gigabytes of disk. The memory that is printed is at least that of
-this script, some 18 MiB, since it has the process before the program does.
+memory and time. What is due is written in hostile_rows.py and hostile_large.py, or read apart from the program by
+hostile_expected.py; else the form of the text is judged alone. It prints a line for each part; the files of a run that ends otherwise
+are kept. With --huge the largest inputs are run instead, which takes some gigabytes of disk. The programs are started by spawner.py,
+which is small: the memory that is printed is the program's, but at least that script's, which is printed first.
 """
 
 import argparse
@@ -16,6 +16,7 @@ import random
 import re
 import shutil
 import signal
+import subprocess
 import sys
 import tempfile
 import time
@@ -27,7 +28,9 @@ sys.dont_write_bytecode = True
 
 import form_cases
 import hostile_expected
+import hostile_large as large
 import hostile_rows as rows
+import hostile_words
 
 BUILT = Path(__file__).resolve().parent.parent / "crates/engrave_cli/out/engrave_cli"
 BUILD = "(cd crates/engrave_cli && rt run -- probe --drawing=data/plate.loops --at=500,500 --bit=1/1 --rmax=600)"
@@ -70,9 +73,9 @@ def row_cases():
     for words, status, text in rows.NAMES + (rows.UNREADABLE if os.geteuid() else []):
         yield case_of("names of no plain files", words, plain, status, text)
     for words in rows.UNWRITTEN:
-        for output in ("full", "closed", "broken", "read only"):
+        for output in ("full", "closed", "broken", "readonly"):
             yield case_of("outputs that fail", words, plain, 6, None)._replace(output=output)
-    for words, drawing, code, status, text in rows.LARGE:
+    for words, drawing, code, status, text in large.LARGE:
         case = case_of("large inputs", words, {"d": drawing, "c": code}, status, None if text is ... else text)
         yield case._replace(text=None) if text is ... else case
 
@@ -108,13 +111,13 @@ def cut_cases():
 
 def scarce_cases():
     """Runs that have less and less memory: they answer, or end with the status that tells the want of it."""
-    far = [rows.FAR, (b"Z9\n", 300_000)]
-    lines = [(rows.BEGIN, 1), (rows.LINE, 131_072), (rows.END, 1)]
+    far = [large.FAR, (b"Z9\n", 300_000)]
+    lines = [(large.BEGIN, 1), (large.LINE, 131_072), (large.END, 1)]
     for name, words, file, status, text in (
-        ("d", rows.PROBE, rows.RING, 0, "depth 0"),
-        ("d", rows.IN_DXF, lines, 3, "input cross 0,1"),
-        ("d", rows.IN_PBM + " --pixel=4", [(b"P4 8191 8191\n", 1), (b"\xff", 8_387_584)], 0, "32764,32764 0,32764 0,0 32764,0"),
-        ("d", rows.SPREAD, [(rows.SPREAD_SQUARES, 2)], 3, "input too many chains"),
+        ("d", rows.PROBE, large.RING, 0, "depth 0"),
+        ("d", large.IN_DXF, lines, 3, "input cross 0,1"),
+        ("d", large.IN_PBM + " --pixel=4", [(b"P4 8191 8191\n", 1), (b"\xff", 8_387_584)], 0, "32764,32764 0,32764 0,0 32764,0"),
+        ("d", rows.SPREAD, [(large.SPREAD_SQUARES, 2)], 3, "input too many chains"),
         ("c", rows.MOVES, far, 0, "moves 300000"),
     ):
         for mebibytes in rows.SPACES:
@@ -159,10 +162,20 @@ def formed_case(chance):
     return due_case(f"changed {form} files", [word.encode() for word in words], drawing, b"")
 
 
+def grammar_case(chance):
+    """A command and options of it, each with a value of its form, at an end of its range, or beyond it; now and then one thing is wrong."""
+    words = hostile_words.command(chance)
+    drawing, code = chance.choice(rows.DRAWING_BASES), chance.choice(rows.CODE_BASES)
+    return due_case("words by grammar", words, drawing, code)
+
+
 def random_case(chance):
     """One changed input."""
-    if chance.random() < 0.4:
+    kind = chance.random()
+    if kind < 0.35:
         return formed_case(chance)
+    if kind < 0.55:
+        return grammar_case(chance)
     reader = chance.choice(("drawings", "codes", "checks", "contacts", "carvings", "covers", "words"))
     drawing, code = chance.choice(rows.DRAWING_BASES), chance.choice(rows.CODE_BASES)
     words = chance.choice(rows.WORD_BASES[reader]).encode()
@@ -179,7 +192,7 @@ def random_case(chance):
 def cases_of(options):
     """The cases: with the random ones as many as are asked for."""
     if options.huge:
-        for words, drawing, code, status, text in rows.HUGE:
+        for words, drawing, code, status, text in large.HUGE:
             yield case_of("huge inputs", words, {"d": drawing, "c": code}, status, text)
         return
     count = 0
@@ -187,17 +200,18 @@ def cases_of(options):
         for case in cases:
             count += 1
             yield case
-    chance = random.Random(options.seed)
-    for _ in range(options.runs - count):
-        yield random_case(chance)
+    chances = [random.Random(seed) for seed in options.seeds]
+    for number in range(options.runs - count):
+        yield random_case(chances[number % len(chances)])
 
 
 def enter(folder, program):
     """Makes the folder in which a worker runs its cases, with the names that aren't plain files."""
-    global PROGRAM, PIPE, KEPT
+    global PROGRAM, PIPE, KEPT, SPAWNER
     KEPT = []
     PROGRAM = program
     os.chdir(tempfile.mkdtemp(dir=folder))
+    SPAWNER = Spawner()
     os.mkdir("folder")
     os.symlink("gone", "dangling")
     os.symlink("circle", "circle")
@@ -229,18 +243,32 @@ def reported(case):
     """How many rows and points a report may have at most, where the command makes one."""
     if case.words[:1] not in ([b"cover"], [b"carve"]):
         return 0, 0
-    found = [re.fullmatch(rb"--pitch=0*([1-9][0-9]{0,4})", word) for word in case.words]
-    pitch = next((int(match[1]) for match in found if match), 10)
-    rows_up = 65_536 // pitch + 1
+    rows_up = 65_536 // number_in(case, b"pitch", 10) + 1
     return rows_up, min(rows_up**2, hostile_expected.MOST_REPORTED)
+
+
+def number_in(case, name, usual):
+    """The number of an option, as it is written; what holds else where it isn't a plain one."""
+    found = [re.fullmatch(rb"--%s=0*([1-9][0-9]{0,4})" % name, word) for word in case.words]
+    return next((int(match[1]) for match in found if match), usual)
+
+
+def milled(case):
+    """How many points there may be at most on the lines of a pocket."""
+    if not any(b"pocket" in word for word in case.words):
+        return 0
+    numbers = [int(text) for piece, _ in case.files.get("d", []) for text in re.findall(rb"-?[0-9]{1,5}", piece)]
+    is_loops = not any(b"form" in word for word in case.words)
+    wide = min(max(numbers) - min(numbers) + 1, 65_536) if is_loops and numbers else 65_536
+    return 2 * wide * (wide // number_in(case, b"over", 1) + 1)
 
 
 def bounds(case):
     """The most seconds, and MiB without those for lines, that are stated for a case."""
     size = sum(len(piece) * count for file in case.files.values() for piece, count in file)
     # Devices that never end are read up to the limit.
-    size += sum(limit for word in case.words for name, limit in rows.ENDLESS.items() if word.startswith(name))
-    moves = min(1 + count_in(case.files.get("c", []), b"\n"), rows.MOST_MOVES)
+    size += sum(limit for word in case.words for name, limit in large.ENDLESS.items() if word.startswith(name))
+    moves = min(1 + count_in(case.files.get("c", []), b"\n"), large.MOST_MOVES)
     pairs = moves * count_in(case.files.get("d", []), b",") if case.words[:1] == [b"check"] else 0
     points = count_in(case.files.get("d", []), b",") if case.words[:1] in ([b"contacts"], [b"carve"]) else 0
     contacts = min(points * (1 + hostile_expected.MOST_PIECES), hostile_expected.MOST_CONTACTS)
@@ -251,6 +279,8 @@ def bounds(case):
     memory += rows.BYTES_A_CONTACT * contacts
     reading = rows.SECONDS_A_MEBIBYTE * size / MEBIBYTE + rows.SECONDS_A_MOVE * moves
     planning = rows.SECONDS_A_CONTACT * contacts + rows.SECONDS_A_NODE * nodes
+    planning += rows.SECONDS_A_MILLED * milled(case) if case.words[:1] == [b"carve"] else 0
+    planning += rows.SECONDS_A_CELL * 80 if case.words[:1] == [b"trial"] else 0
     rows_up, dots = reported(case)
     planning += rows.SECONDS_A_SEGMENT * segments
     reporting = rows.SECONDS_A_POINT * dots + rows.SECONDS_A_ROW * rows_up * (moves + nodes)
@@ -267,43 +297,40 @@ def lines_of(case, status):
         return hostile_expected.MOST_NODES if status else sum(1 for _ in text)
 
 
-def spawn(case):
-    """Starts the program, and gives the number of its process."""
-    write = os.O_WRONLY | os.O_CREAT | os.O_TRUNC
-    reader, writer = os.pipe()
-    os.close(reader)
-    output = {
-        "file": (os.POSIX_SPAWN_OPEN, 1, "text", write, 0o600),
-        "full": (os.POSIX_SPAWN_OPEN, 1, "/dev/full", os.O_WRONLY, 0),
-        "read only": (os.POSIX_SPAWN_OPEN, 1, "/dev/null", os.O_RDONLY, 0),
-        "broken": (os.POSIX_SPAWN_DUP2, writer, 1),
-        "closed": (os.POSIX_SPAWN_CLOSE, 1),
-    }[case.output]
-    words = [os.fsencode(PROGRAM), *case.words]
-    if case.space:
-        words = [b"/bin/sh", b"-c", b'ulimit -v %d && exec "$0" "$@"' % case.space, *words]
-    process = os.posix_spawn(
-        words[0],
-        words,
-        {},
-        file_actions=[
-            (os.POSIX_SPAWN_OPEN, 0, "/dev/null", os.O_RDONLY, 0),
-            output,
-            (os.POSIX_SPAWN_OPEN, 2, "noise", write, 0o600),
-        ],
-        setpgroup=0,
-        # As a shell starts it: Python itself ignores these.
-        setsigdef=[signal.SIGPIPE, signal.SIGXFSZ],
-    )
-    os.close(writer)
-    return process
+class Spawner:
+    """A process of spawner.py, which starts programs in the folder of its worker."""
+
+    def __init__(self):
+        words = [sys.executable, "-S", "-E", Path(__file__).resolve().parent / "spawner.py"]
+        self.process = subprocess.Popen(words, stdin=subprocess.PIPE, stdout=subprocess.PIPE)
+
+    def start(self, output, space, words):
+        """Starts a program, and gives the number of its process."""
+        lines = [b"%s %d %d\n" % (output.encode(), space, len(words)), *(word.hex().encode() + b"\n" for word in words)]
+        self.process.stdin.write(b"".join(lines))
+        self.process.stdin.flush()
+        return int(self.process.stdout.readline())
+
+    def ended(self):
+        """Its status, and its peak memory in MiB, when it has ended."""
+        status, kibibytes = self.process.stdout.readline().split()
+        return int(status), int(kibibytes) / 1024
+
+
+def floor():
+    """The memory that is measured of a program that does nothing."""
+    spawner = Spawner()
+    with tempfile.TemporaryDirectory() as folder:
+        os.chdir(folder)
+        spawner.start("closed", 0, [b"/bin/true"])
+        return spawner.ended()[1]
 
 
 def run(case, most_seconds):
     """Runs the program, and ends it where it takes too long, or where this script is ended."""
     Path("text").write_bytes(b"")
     began = time.monotonic()
-    process = spawn(case)
+    process = SPAWNER.start(case.output, case.space, [os.fsencode(PROGRAM), *case.words])
 
     def end(number, _):
         os.killpg(process, signal.SIGKILL)
@@ -313,10 +340,10 @@ def run(case, most_seconds):
     signal.signal(signal.SIGALRM, end)
     signal.signal(signal.SIGTERM, end)
     signal.setitimer(signal.ITIMER_REAL, min(most_seconds, MOST_SECONDS))
-    _, state, usage = os.wait4(process, 0)
+    status, mebibytes = SPAWNER.ended()
     signal.setitimer(signal.ITIMER_REAL, 0)
     signal.signal(signal.SIGTERM, signal.SIG_DFL)
-    return Ended(os.waitstatus_to_exitcode(state), time.monotonic() - began, usage.ru_maxrss / 1024)
+    return Ended(status, time.monotonic() - began, mebibytes)
 
 
 def is_in_form(case, status):
@@ -397,15 +424,17 @@ def keep(case):
 
 def main():
     parser = argparse.ArgumentParser(description=__doc__.splitlines()[0])
-    parser.add_argument("--runs", type=int, default=3000, help="how many runs in all, at least the fixed ones")
-    parser.add_argument("--seed", type=int, default=1, help="the seed of the random ones")
+    parser.add_argument("--runs", type=int, default=4000, help="how many runs in all, at least the fixed ones")
+    parser.add_argument("--seeds", type=int, nargs="+", default=[1, 2], help="the seeds of the random ones, in turn")
+    parser.add_argument("--minutes", type=float, default=60, help="after so many, no further run is begun")
     parser.add_argument("--program", default=BUILT, help="the program")
     parser.add_argument("--huge", action="store_true", help="the largest inputs instead")
     options = parser.parse_args()
     if not os.access(options.program, os.X_OK):
         print(f"no program at {options.program}; this builds it: {BUILD}")
         return 2
-    parts, faults = {}, []
+    parts, faults, began = {}, [], time.monotonic()
+    print(f"a program that does nothing: {floor():.0f} MiB")
     with tempfile.TemporaryDirectory(prefix="hostile_") as folder:
         settings = (folder, os.path.abspath(options.program))
         with multiprocessing.get_context("fork").Pool(1 if options.huge else 2, enter, settings) as pool:
@@ -416,6 +445,9 @@ def main():
                 faults += [wrong] if wrong else []
                 if len(faults) == MOST_WRONG:
                     faults.append(f"ended after {MOST_WRONG} wrong runs")
+                    break
+                if time.monotonic() - began > 60 * options.minutes:
+                    print("ended, since the time is up")
                     break
     for part, (runs, wrongs, seconds, mebibytes) in parts.items():
         print(f"{part}: {runs} runs, {wrongs} wrong, at most {seconds:.2f} s, at most {mebibytes:.0f} MiB")

@@ -5,6 +5,7 @@ from fractions import Fraction
 from math import isqrt
 
 import forms
+import joining
 
 MOST_DRAWING, MOST_CODE = 16_777_216, 536_870_912
 MOST_PIECES, MOST_CONTACTS = 8192, 1_048_576
@@ -14,7 +15,12 @@ PER_UNIT = {b"mm10": 10, b"mm100": 100, b"mm1000": 1000, b"in100": 100, b"in1000
 # The options of a drawing, and what the numbers of each range over.
 SHAPE = {b"chord": (1, 90), b"snap": (0, 16), b"pixel": (1, 1000), b"height": (1, 32_767), b"width": (10, 500)}
 SHAPE |= {b"charspace": (0, 500), b"wordspace": (0, 500), b"linespace": (10, 500)}
-SHAPE_WORDS = {b"form": b"loops dxf cxf pbm", b"units": b"mm10 mm100 mm1000 in100 in1000", b"justify": b"left center right", b"mirror": b"no yes", b"flip": b"no yes"}
+SHAPE_WORDS = {b"form": b"loops dxf cxf pbm", b"units": b"mm10 mm100 mm1000 in100 in1000", b"justify": b"left center right", b"mirror": b"no yes", b"flip": b"no yes", b"cross": b"refuse evenodd"}
+WAYS = b"none x y both"
+# The options that are numbers: what stands between the two where there are two, and what each ranges over.
+NUMBERS = {b"at": (b",", -32_768, 32_767), b"bit": (b"/", 1, 2000), b"rmax": (b"", 1, 8191), b"limit": (b"", 1, 32_767)}
+NUMBERS |= {b"step": (b"", 1, 32_767), b"safe": (b"", 1, 32_767), b"feed": (b"", 1, 10_000), b"pitch": (b"", 1, 32_767)}
+NUMBERS |= {b"over": (b"", 1, 8191), b"count": (b"", 1, 80), **{name: (b"", *ends) for name, ends in SHAPE.items()}}
 DRAWN = b"drawing text " + b" ".join([*SHAPE, *SHAPE_WORDS])
 OPTIONS = {
     b"flatten": (DRAWN, b"drawing"),
@@ -22,9 +28,11 @@ OPTIONS = {
     b"contacts": (DRAWN + b" step rmax", b"drawing step rmax"),
     b"moves": (b"code units", b"code"),
     b"check": (DRAWN + b" bit rmax code", b"drawing bit rmax code"),
-    b"carve": (DRAWN + b" bit rmax step limit safe feed pitch", b"drawing bit rmax step"),
+    b"carve": (DRAWN + b" bit rmax step limit safe feed pitch pocket over", b"drawing bit rmax step"),
     b"cover": (DRAWN + b" bit rmax code pitch", b"drawing bit rmax code"),
+    b"trial": (b"count", b"count"),
 }
+KNOWN = {name for known, _ in OPTIONS.values() for name in known.split()}
 G_TAKEN = {Fraction(number, 10) for number in (170, 200, 210, 400, 490, 540, 610, 640, 800, 900, 911, 940)}
 
 
@@ -66,21 +74,8 @@ def numbers(text, separator, low, high):
 def request(words):
     """The command, its values, and its numbers, where the words are taken."""
     command, values = named_values(words)
-    taken = {}
-    for name, separator, low, high in (
-        (b"at", b",", -32_768, 32_767),
-        (b"bit", b"/", 1, 2000),
-        (b"rmax", b"", 1, 8191),
-        (b"limit", b"", 1, 32_767),
-        (b"step", b"", 1, 32_767),
-        (b"safe", b"", 1, 32_767),
-        (b"feed", b"", 1, 10_000),
-        (b"pitch", b"", 1, 32_767),
-        *((name, b"", *ends) for name, ends in SHAPE.items()),
-    ):
-        if name in values:
-            taken[name] = numbers(values[name], separator, low, high)
-    if any(name in values and values[name] not in known.split() for name, known in SHAPE_WORDS.items()):
+    taken = {name: numbers(values[name], *form) for name, form in NUMBERS.items() if name in values}
+    if any(name in values and values[name] not in known.split() for name, known in {**SHAPE_WORDS, b"pocket": WAYS}.items()):
         raise Refusal(2, b"usage\n")
     if b"text" in values and not 1 <= len(values[b"text"].decode()) <= 200 or values.get(b"form") == b"cxf" and b"text" not in values:
         raise Refusal(2, b"usage\n")
@@ -93,7 +88,7 @@ def drawing_of(values, taken, data):
     said |= {name.decode(): taken[name][0] for name in SHAPE if name in taken}
     try:
         return forms.drawing_of(data, forms.Words(**said))
-    except forms.Refused as refused:
+    except joining.Refused as refused:
         raise Refusal(3, str(refused).encode() + b"\n") from None
 
 
@@ -137,6 +132,14 @@ def check_report(edges, pitch):
     counts = [max(side) // pitch + -min(side) // pitch + 1 for side in sides if side]
     if counts and counts[0] * counts[1] > MOST_REPORTED:
         raise Refusal(3, b"input too many points\n")
+
+
+def milled(edges, values, taken):
+    """How many points there are on the lines of a pocket, where there is one."""
+    over, sides = taken.get(b"over", [50])[0], [[a[axis] for a, _ in edges] for axis in (0, 1)]
+    wide, high = (max(side) - min(side) + 1 for side in sides) if edges else (0, 0)
+    points = {b"x": wide * (high // over + 1), b"y": high * (wide // over + 1)}
+    return {b"none": 0, **points, b"both": sum(points.values())}[values.get(b"pocket", b"none")]
 
 
 def number_of(text):
@@ -240,9 +243,11 @@ def due(words, files):
         for word in words:
             word.decode()
         command, values, taken = request(words)
+        if command == b"trial":
+            return (0,), None
         if command != b"moves":
             loops, skipped = drawing_of(values, taken, file_of(files, values[b"drawing"], b"drawing", MOST_DRAWING))
-            edges = forms.edges_of(loops)
+            edges = joining.edges_of(loops)
         if command == b"flatten":
             return (0,), (b"" if skipped is None else b"# skipped %d\n" % skipped) + forms.loops_text(loops).encode()
         if command == b"probe":
@@ -252,8 +257,8 @@ def due(words, files):
             # Where there are some, their lines are judged by their form.
             return (0,), None if contacts_of(edges, taken[b"step"][0]) else b""
         if command == b"carve":
-            # Where the contacts are few, so are the chains. What is written is judged by its form.
-            few = MOST_STEPS * contacts_of(edges, taken[b"step"][0]) <= MOST_CHAINS
+            # Where the contacts and the points of a pocket are few, so are the chains. What is written is judged by its form.
+            few = MOST_STEPS * contacts_of(edges, taken[b"step"][0]) + milled(edges, values, taken) <= MOST_CHAINS
             if few:
                 check_report(edges, taken.get(b"pitch", [10])[0])
             return ((0,) if few else (0, 3)), None if edges else empty_program(values, taken)

@@ -31,6 +31,7 @@ FORMS = {
     (b"moves", 0): rb"moves " + COUNT + rb"\n",
     (b"check", 0): rb"clear " + COUNT + rb" moves\n",
     (b"cover", 0): LEFT + rb"\n",
+    (b"trial", 0): rb"trial %s loops %s edges %s contacts %s\nnodes %s chains %s\nclear %s moves\n%s\n" % (*(COUNT,) * 7, LEFT),
     (b"check", 1): rb"line [1-9][0-9]* (too deep|gouge edge " + COUNT + rb"|outside)\n",
     2: rb"usage\n",
     3: rb"input (too long (drawing|code)|loops " + COUNT + LOOPS_KINDS + FORMS_KINDS + rb"|code line [1-9][0-9]*" + CODE_KINDS + rb"|step too fine " + COUNT + rb"|too many (contacts|nodes|chains|points))\n",
@@ -276,6 +277,25 @@ M2""",
     (FINE.replace("step=2", "step=32767"), b"-1,-1 32767,-1 0,600\n", 3, "input too many points"),
 ]
 
+# Drawings that cross, by the even-odd rule, likewise.
+EVENODD = " --cross=evenodd"
+POINTED = [("0.00", "0.00"), ("0.00", "0.00"), ("0.01", "0.00")]
+SQUARES = b"0,0 200,0 200,200 0,200\n100,100 300,100 300,300 100,300\n"
+CARVINGS += [
+    (PROBE.replace("500,500", "150,150"), SQUARES, 3, "input cross 1,4"),
+    (PROBE.replace("500,500", "150,150") + EVENODD, SQUARES, 0, "depth 0"),
+    (PROBE.replace("500,500", "50,100") + EVENODD, SQUARES, 0, "depth 50"),
+    (PROBE + EVENODD, SQUARE, 0, "depth 500"),
+    (PROBE + EVENODD, SQUARE + SQUARE, 0, "depth 0"),
+    # Where an edge is there twice on one side of a square, it is all the same an edge.
+    (PROBE + EVENODD, SQUARE + b"500,400 500,600\n", 0, "depth 0"),
+    (PROBE.replace("500,500", "400,500") + EVENODD, SQUARE + b"500,400 500,600\n", 0, "depth 100"),
+    (FLATTEN + EVENODD, b"0,0 1,0\n", 0, "0,0 1,0"),
+    (FLATTEN + EVENODD, SQUARES * 3, 0, (SQUARES * 3).decode()[:-1]),
+    (FLATTEN + EVENODD, b"0,0\n", 3, "input loops 0 short"),
+    (FINE + EVENODD + " --pocket=both --over=1", b"0,0 1,0\n", 0, HEAD + "".join(CORNER % place for place in POINTED) + "(uncut 0 of 0)\nM2"),
+]
+
 # Drawings and codes for cover: the words, the bytes of both, the status, the text.
 COVERS = [
     (COVER, b"", b"", 0, "uncut 0 of 0"),
@@ -385,6 +405,25 @@ FORMED = [
 # Words beside the files d with SQUARE and c with DOWN: the words, the status, the text. The system passes no word of more
 # than 131,071 bytes on.
 AT = "--drawing=d --at=500,500 --bit=1/1"
+SQUARE_CARVED = """(bit 1/1 rmax 600 limit 32767 step 500)
+G21
+G90
+F500
+G0 Z2.00
+G0 X0.00 Y0.00
+G1 Z0.00
+G1 X5.00 Y5.00 Z-5.00
+G1 X10.00 Y0.00 Z0.00
+G1 X5.00 Y5.00 Z-5.00
+G1 X10.00 Y10.00 Z0.00
+G1 X5.00 Y5.00 Z-5.00
+G1 X0.00 Y10.00 Z0.00
+G1 X5.00 Y5.00 Z-5.00
+G1 X0.00 Y0.00 Z0.00
+G0 Z2.00
+(uncut 0 of 1)
+M2"""
+TRIAL = "trial 1 loops 1 edges 8 contacts 64\nnodes 69 chains 7\nclear 82 moves\nuncut 0 of 1341"
 LISTED = "4 100,300,200 100,300,-100\n5 100,300,-100 100,100,-100\nmoves 2"
 OUT_OF_RANGE = {
     "chord": ("0", "91", "-1", "", "1.5", "9999999999"),
@@ -398,6 +437,7 @@ OUT_OF_RANGE = {
     "justify": ("middle", "", "LEFT"),
     "mirror": ("true", "1"),
     "flip": ("", "Yes"),
+    "cross": ("", "Evenodd"),
     "text": ("",),
 }
 WORDS = [
@@ -502,8 +542,28 @@ M2""",
     (COVER + " --pitch=1 --pitch=1", 2, "usage"),
     (COVER + " --step=5", 2, "usage"),
     (COVER + " --limit=5", 2, "usage"),
-    (CARVE + " --pocket=none", 2, "usage"),
-    (CARVE + " --over=50", 2, "usage"),
+    (CARVE + " --pocket=none --pitch=500", 0, SQUARE_CARVED),
+    (CARVE + " --over=8191 --cross=evenodd --pitch=500", 0, SQUARE_CARVED),
+    # Nowhere is it as deep as the bit may go.
+    (CARVE + " --pocket=both --over=500 --pitch=500", 0, SQUARE_CARVED),
+    (CARVE + " --pocket=y --over=501 --limit=500 --pitch=500", 0, SQUARE_CARVED.replace("32767", "500")),
+    (
+        CARVE + " --pocket=both --over=500 --limit=500 --pitch=500",
+        0,
+        SQUARE_CARVED.replace("32767", "500").replace("(uncut", "G0 X5.00 Y5.00\nG1 Z-5.00\nG0 Z2.00\n" * 2 + "(uncut"),
+    ),
+    *[(f"{CARVE} --{wrong}", 2, "usage") for wrong in ("pocket=", "pocket=X", "pocket=xy", "pocket x y", "pocket", "pocket=x --pocket=y")],
+    *[(f"{CARVE} --over={wrong}", 2, "usage") for wrong in ("", "0", "8192", "-1", "1.0", "0000000001")],
+    *[(f"{words} --cross={wrong}", 2, "usage") for words in (PROBE, FLATTEN, CHECK) for wrong in ("", "odd", "Refuse", "evenodd --cross=evenodd")],
+    (PROBE + " --cross=evenodd", 0, "depth 500"),
+    (PROBE + " --cross refuse", 0, "depth 500"),
+    (PROBE + " --pocket=x", 2, "usage"),
+    (COVER + " --over=50", 2, "usage"),
+    (MOVES + " --cross=refuse", 2, "usage"),
+    *[(f"trial{wrong}", 2, "usage") for wrong in ("", " --count", " --count=", " --count=0", " --count=81", " --count=-1", " --count=1.0", " --count 1 --count=1")],
+    *[(f"trial --count=1 {wrong}", 2, "usage") for wrong in ("--drawing=d", "--cross=evenodd", "--bit=1/1", "1", "-- --", "--over=1")],
+    ("trial --count=1", 0, TRIAL),
+    ("trial --count 000000001 --", 0, TRIAL),
     (CARVE + " --code=c", 2, "usage"),
     (CARVE + " --at=5,5", 2, "usage"),
     (CARVE.replace("step=500", "step=0"), 2, "usage"),
@@ -638,152 +698,6 @@ COPIES = ["two\nlines", "naïve ☃", "two words", "--code"]
 UNWRITTEN = [PROBE, MOVES, CHECK, CONTACTS, CARVE, FLATTEN, FLATTEN + " --form=pbm", CARVE.replace("=500", "=0"), "usage"]
 UNWRITTEN += ["moves --code=nothing", "moves --code=folder", "moves --code=d"]
 
-# Names that are read up to the limit, and how far that is.
-DRAWING_LIMIT, CODE_LIMIT = 16_777_216, 536_870_912
-ENDLESS = {b"--drawing=/dev/": DRAWING_LIMIT, b"--code=/dev/zero": CODE_LIMIT}
-
-# Larger inputs, in pieces that are repeated: the words, the drawing, the code, the status, the text.
-# One loop of as many points as there may be: a zigzag there, and one back above it.
-ZIGZAG = [b"%d,%d" % (x, x % 2) for x in range(-32_768, 32_768)] + [b"%d,%d" % (x, 9 + x % 2) for x in range(32_767, -32_769, -1)]
-RING = [(b" ".join(ZIGZAG) + b"\n", 1)]
-# Edges that a check has to compare with each move, since they are nearer than the bit's greatest radius.
-HOLES = b"".join(b"%d,%d %d,%d %d,%d %d,%d\n" % (x, y, x + 2, y, x + 2, y + 2, x, y + 2) for y in range(0, 512, 4) for x in range(1000, 1508, 4))
-HOLE_EDGES = 4 * HOLES.count(b"\n")
-NEAR = [(b"-9999,-9999 9999,-9999 9999,9999 -9999,9999\n", 1), (HOLES, 1)]
-# The largest square.
-WHOLE = b"-32768,-32768 32767,-32768 32767,32767 -32768,32767\n"
-
-
-def within(count):
-    """So many squares within each other, the largest first."""
-    return b"".join(b"%d,%d %d,%d %d,%d %d,%d\n" % (a, a, b, a, b, b, a, b) for a, b in ((i - 32_768, 32_767 - i) for i in range(count)))
-
-
-
-# Four squares apart, which the step 4 divides into 8188 pieces a side.
-SPREAD_SQUARES = b"".join(
-    b"%d,%d %d,%d %d,%d %d,%d\n" % (x, y, x + 32_752, y, x + 32_752, y + 32_752, x, y + 32_752) for x in (-32_768, 0) for y in (-32_768, 0)
-)
-
-
-def between(squares, triangles):
-    """So many small squares and triangles between them."""
-    corners = [b"-10,%d -6,%d -6,%d -10,%d\n"] * squares + [b"-10,%d -8,%d -10,%d\n"] * triangles
-    return b"".join(text % ((y, y, y + 4, y + 4) if text.count(b"%") == 4 else (y, y, y + 2)) for y, text in zip(range(9, 200, 9), corners))
-
-
-LARGE = [
-    (PROBE, [(b"1", DRAWING_LIMIT)], [], 3, "input loops 0 syntax"),
-    (PROBE, [(b"1", DRAWING_LIMIT + 1)], [], 3, "input too long drawing"),
-    (PROBE, [(b" ", DRAWING_LIMIT)], [], 0, "depth 0"),
-    (PROBE, [(b"\n", DRAWING_LIMIT)], [], 0, "depth 0"),
-    (PROBE, [(b"#", DRAWING_LIMIT)], [], 0, "depth 0"),
-    (PROBE, [(b"#\n", DRAWING_LIMIT // 2)], [], 0, "depth 0"),
-    (PROBE, [(b"\t \r\n", DRAWING_LIMIT // 4)], [], 0, "depth 0"),
-    (PROBE, [(SQUARE, 1), (b" ", DRAWING_LIMIT - 28)], [], 0, "depth 500"),
-    (PROBE, [(SQUARE, 1), (b" ", DRAWING_LIMIT - 27)], [], 3, "input too long drawing"),
-    (PROBE, [(b" ", DRAWING_LIMIT - 1), (b"5", 1)], [], 3, "input loops 16777215 syntax"),
-    (PROBE, RING, [], 0, "depth 0"),
-    (PROBE, [*RING, (b"9,9 8,8\n", 1)], [], 3, f"input loops {len(RING[0][0])} too many"),
-    (PROBE, [(b"0,0 1,1\n", 65_536)], [], 3, "input cross 0,1"),
-    (PROBE, [(b"0,0 1,1 ", 65_535), (b"2,3 4,5\n", 1)], [], 3, "input cross 0,1"),
-    (PROBE, [(HOLES, 1), (b"0,0 9,9 9,0 0,9\n", 1)], [], 3, f"input cross {HOLE_EDGES},{HOLE_EDGES + 2}"),
-    ("flatten --drawing=d", RING, [], 0, RING[0][0].decode()[:-1]),
-    (PROBE, [(b"0,0 1,1\n", 65_537)], [], 3, "input loops 524288 too many"),
-    (PROBE, [(b"0,0 1,1 ", 65_536), (b"9,9\n", 1)], [], 3, "input loops 524288 too many"),
-    (CHECK, [(b"0,0 1,1\n", 65_536)], [(DOWN, 1)], 3, "input cross 0,1"),
-    (CHECK, RING, [(DOWN, 1)], 1, "line 4 outside"),
-    (CHECK.replace("200", "8191"), NEAR, [(b"X5Y5Z1\nZ-.01\n", 1), (b"X6Z-.9\nX5Z-.01\n", 50)], 0, "clear 101 moves"),
-    (CONTACTS.replace("250", "8"), [(within(31), 1)], [], 0, "30 123 8185/8185 none 0 -32738,-32738"),
-    (CONTACTS.replace("250", "8"), [(within(33), 1)], [], 3, "input too many contacts"),
-    (CONTACTS.replace("250", "7"), [(SQUARE, 1), (within(33), 1)], [], 3, "input step too fine 4"),
-    # Where no depth fits, each node is a chain, and the first one of a loop twice: 4 * 32,753 + 12 * 5, and one more by 9 * 5 + 4 * 4.
-    (SPREAD, [(SPREAD_SQUARES + between(12, 0), 1)], [], 0, "M2"),
-    (SPREAD, [(SPREAD_SQUARES + between(9, 4), 1)], [], 3, "input too many chains"),
-    (CARVE.replace("500", "8"), [(within(33), 1)], [], 3, "input too many contacts"),
-    (CARVE.replace("500", "7"), [(SQUARE, 1), (within(33), 1)], [], 3, "input step too fine 4"),
-    (MOVES, [], [(b"N1\n", 1_000_000), (b"Q", 1)], 3, "input code line 1000001 word"),
-    (MOVES, [], [(b"(" + b"a" * 1022 + b")\n", 20_000)], 0, "moves 0"),
-    (MOVES, [], [(b"X" + b"0" * 1023 + b"\n", 20_000)], 0, "moves 0"),
-    (MOVES, [], [(b"G90" * 341 + b"\n", 20_000)], 0, "moves 0"),
-    (MOVES, [], [(b"X0Y0Z1\n", 1), (b"X1\n", 300_000)], 0, "moves 300000"),
-]
-
-BEGIN, END = b"0\nSECTION\n2\nENTITIES\n", b"0\nENDSEC\n0\nEOF\n"
-LINE = b"0\nLINE\n10\n0\n20\n0\n11\n1\n21\n0\n"
-VERTEX = b"0\nVERTEX\n10\n0\n20\n0\n"
-IN_DXF, IN_CXF, IN_PBM = (f"{FLATTEN} {form}" for form in (DXF, CXF, PBM))
-# The outlines of every other column of the widest bitmap, for pixels of 4.
-STRIPES = "\n".join(f"{x + 4},32764 {x},32764 {x},0 {x + 4},0" for x in range(0, 32_764, 8))
-# Where the text isn't written here, its form is judged alone.
-LARGE += [
-    (IN_DXF, [(b"0", DRAWING_LIMIT)], [], 3, "input dxf pair 1 bad code"),
-    (IN_DXF, [(b"0\n", 1), (b"A", DRAWING_LIMIT - 2)], [], 3, "input dxf pair 2 unended"),
-    (IN_DXF, [(b"0", DRAWING_LIMIT + 1)], [], 3, "input too long drawing"),
-    (IN_DXF, [(b"999\n\n", DRAWING_LIMIT // 5)], [], 3, f"input dxf pair {DRAWING_LIMIT // 5 + 1} unended"),
-    (IN_DXF, [(BEGIN, 1), (b"0\nX\n", 4_000_000), (END, 1)], [], 0, "# skipped 4000000"),
-    (IN_DXF, [(BEGIN, 1), (LINE, 131_072), (END, 1)], [], 3, "input cross 0,1"),
-    (IN_DXF, [(BEGIN, 1), (LINE, 131_073), (END, 1)], [], 3, "input dxf pair 655363 too many"),
-    (IN_DXF, [(BEGIN, 1), (LINE, (DRAWING_LIMIT - len(BEGIN)) // len(LINE))], [], 3, "input dxf pair 655363 too many"),
-    (IN_DXF, [(BEGIN, 1), (LINE.replace(b"1\n21", b"0.001\n21"), 480_000), (END, 1)], [], 0, "# skipped 0"),
-    (IN_DXF, [(BEGIN + b"0\nPOLYLINE\n70\n1\n", 1), (VERTEX, 800_000), (b"0\nSEQEND\n" + END, 1)], [], 0, "# skipped 0"),
-    (IN_DXF, [(BEGIN + b"0\nPOLYLINE\n70\n64\n", 1), (VERTEX, 800_000), (b"0\nSEQEND\n" + END, 1)], [], 0, "# skipped 1"),
-    (IN_DXF, [(BEGIN + b"0\nLINE\n", 1), (b"10\n0\n", 3_000_000), (b"20\n0\n11\n0\n21\n0\n" + END, 1)], [], 0, "# skipped 0"),
-    (IN_CXF, [(b"x", DRAWING_LIMIT)], [], 3, "input lay no glyph 0"),
-    (IN_CXF, [(b"[I]" + b" " * (DRAWING_LIMIT - 3), 1)], [], 0, None),
-    (IN_CXF, [(FONT, 1), (b"[I]\n", 4_000_000)], [], 0, LETTER_I),
-    (IN_CXF, [(FONT, 1), (b"[a]\nL 0,0,1,1\n", 1_000_000)], [], 0, LETTER_I),
-    (IN_CXF, [(b"[I]\n", 1), (b"L 0,0,0,1\n", 1_600_000)], [], 3, "input lay too many"),
-    (IN_CXF.replace("=I", "=" + "I" * 200) + " --height=9", [(b"[I]\n", 1), (b"L 0,0,0,9\n", 1_600_000)], [], 3, "input lay too many"),
-    (IN_CXF + " --height=1", [(b"[I]\n", 1), (b"L 0,0,0,1\n", 1_600_000)], [], 0, None),
-    (IN_CXF + " --chord=1", [(b"[I]\n", 1), (b"A 0,0,0,0,0\n", 2_000)], [], 0, None),
-    (IN_PBM, [(b"P1 8191 2048\n", 1), (b"0", DRAWING_LIMIT - 13)], [], 0, None),
-    (IN_PBM, [(b"P1 8191 2048\n", 1), (b" ", DRAWING_LIMIT - 13)], [], 3, "input pbm short"),
-    (IN_PBM, [(b"P1 #", 1), (b"#", DRAWING_LIMIT - 4)], [], 3, "input pbm header"),
-    (IN_PBM + " --pixel=4", [(b"P4 8191 8191\n", 1), (b"\0", 8_387_584)], [], 0, None),
-    (IN_PBM + " --pixel=4", [(b"P4 8191 8191\n", 1), (b"\xff", 8_387_584)], [], 0, "32764,32764 0,32764 0,0 32764,0"),
-    (IN_PBM + " --pixel=4", [(b"P4 8191 8191\n", 1), (b"\xaa", 8_387_584)], [], 0, STRIPES),
-    (IN_PBM + " --pixel=1", [(b"P4 8191 8191\n", 1), ((b"\xaa" * 1024 + b"\x55" * 1024), 4095), (b"\xaa" * 1024, 1)], [], 3, "input pixels too many"),
-    (IN_PBM + " --pixel=128", [(b"P4 255 255\n", 1), (b"\xaa" * 32 + b"\x55" * 32, 127), (b"\xaa" * 32, 1)], [], 0, ...),
-]
-
-# The largest inputs, likewise.
-FAR = (b"X-327.68Y-327.68Z327.67\n", 1)
-MOST_MOVES = 8_388_608
-# The greatest plate with so many small holes, so far apart that each is as if alone for a bit of radius 60: round a triangle there are 106
-# nodes, round a square 121, and round the plate 13.
-def pierced(triangles, squares):
-    corners = [[(0, 0), (4, 0), (0, 4)]] * triangles + [[(0, 0), (4, 0), (4, 4), (0, 4)]] * squares
-    holes = [
-        b" ".join(b"%d,%d" % (hole % 80 * 130 - 32_000 + x, hole // 80 * 130 - 32_000 + y) for x, y in hole_corners) + b"\n"
-        for hole, hole_corners in enumerate(corners)
-    ]
-    return [(WHOLE + b"".join(holes), 1)]
-
-
-PIERCED = CARVE.replace("1/1", "1/10").replace("600", "60").replace("500", "32767")
-HUGE = [
-    # 39,506 * 106 + 55 * 121 + 13 are 4,194,304 nodes, and 39,514 * 106 + 48 * 121 + 13 are one more.
-    (PIERCED, pierced(39_506, 55), [], 0, "M2"),
-    (PIERCED, pierced(39_514, 48), [], 3, "input too many nodes"),
-    (MOVES, [], [(b" ", CODE_LIMIT)], 3, "input code line 1 long line"),
-    (MOVES, [], [(b"\n", CODE_LIMIT)], 0, "moves 0"),
-    (MOVES, [], [(b";" + b"x" * 1022 + b"\n", CODE_LIMIT // 1024)], 0, "moves 0"),
-    (MOVES, [], [(b"\n", CODE_LIMIT - 1), (b"Q", 1)], 3, "input code line 536870912 word"),
-    (MOVES, [], [(b"\n", CODE_LIMIT + 1)], 3, "input too long code"),
-    (MOVES, [], [(b"\n", CODE_LIMIT // 2 + 1)], 0, "moves 0"),
-    (MOVES, [], [(b"M2\n", 1), (b"\xff", CODE_LIMIT - 3)], 0, "moves 0"),
-    (MOVES, [], [FAR, (b"Y0\n", 3_000_000)], 0, "moves 3000000"),
-    (MOVES, [], [FAR, (b"Z9\n", MOST_MOVES)], 0, "moves 8388608"),
-    (MOVES, [], [FAR, (b"Z9\n", MOST_MOVES + 1)], 3, "input code line 8388610 too many"),
-    (MOVES, [], [FAR, (b"Z9" + b" " * 61 + b"\n", MOST_MOVES - 1)], 0, "moves 8388607"),
-    (CHECK, [(SQUARE, 1)], [FAR, (b"Z9\n", MOST_MOVES)], 0, "clear 8388608 moves"),
-    (CHECK, RING, [FAR, (b"Z9" + b" " * 61 + b"\n", MOST_MOVES - 1)], 0, "clear 8388607 moves"),
-    (MOVES, [], [FAR, (b"\n", 100_000_000), (b"Z-327.67\n", MOST_MOVES)], 0, "moves 8388608"),
-    (CHECK.replace("200", "8191"), NEAR, [(b"X5Y5Z1\nZ-.01\n", 1), (b"X6Z-.9\nX5Z-.01\n", 2500)], 0, "clear 5001 moves"),
-    ("moves --code=/dev/zero", [], [], 3, "input too long code"),
-]
-
 DRAWN = [FLATTEN, PROBE, CONTACTS, CARVE + " --pitch=1000"]
 
 # Limits of the address space, in MiB, under which an answer may be the want of memory.
@@ -795,6 +709,8 @@ SPACES = [*range(4, 40, 2), 48, 64, 96, 128]
 MEBIBYTES, BYTES_A_BYTE, BYTES_A_MOVE, BYTES_A_CONTACT, BYTES_A_LINE, BYTES_A_WORD, MOST_MEBIBYTES = 32, 1, 80, 64, 100, 512, 1024
 SECONDS, SECONDS_A_MEBIBYTE, SECONDS_A_MOVE, SECONDS_A_CONTACT, SECONDS_A_NODE, SECONDS_A_PAIR = 2, 0.05, 2e-6, 1e-5, 3e-5, 2e-7
 SECONDS_A_POINT, SECONDS_A_ROW, SECONDS_A_SEGMENT = 1e-7, 3e-6, 2e-5
+# Of a pocket, for each point of its lines; and of a trial, for each of its cells.
+SECONDS_A_MILLED, SECONDS_A_CELL = 1e-6, 0.2
 # How many bytes of a file there are for each segment at least, by its form.
 BYTES_OF_A_SEGMENT = {b"dxf": 6, b"cxf": 10, b"pbm": 0.06, b"loops": 4}
 
@@ -816,8 +732,8 @@ WORD_BASES = {
     "checks": [CHECK, CHECK + " --units=mm10", CHECK.replace("1/1", "2000/1999")],
     "covers": [COVER, COVER + " --pitch=77", COVER.replace("1/1", "2000/1999") + " --pitch=1000"],
     "contacts": [CONTACTS, CONTACTS.replace("250", "1"), CONTACTS + " --units=in100"],
-    "carvings": [CARVE, CARVE.replace("500", "5"), CARVE.replace("1/1", "1/200") + " --units=in1000", FINE],
-    "words": [FLATTEN + " --snap=2 --chord=9", FLATTEN + " --form=cxf --text=a", PROBE + " --limit=7", CONTACTS, MOVES + " --units=mm100", CHECK, APART, CARVE + " --safe=7 --feed=8", COVER + " --pitch=9"],
+    "carvings": [CARVE, CARVE + " --limit=60 --pocket=both --cross=evenodd --pitch=100", CARVE.replace("500", "5"), CARVE.replace("1/1", "1/200") + " --units=in1000", FINE],
+    "words": [FLATTEN + " --snap=2 --chord=9", FLATTEN + " --form=cxf --text=a", PROBE + " --limit=7", CONTACTS, MOVES + " --units=mm100", CHECK, APART, CARVE + " --safe=7 --feed=8", CARVE + " --pocket=y --over=100 --cross=evenodd", "trial --count=2", COVER + " --pitch=9"],
 }
 ALPHABET = b"0123456789012345678901234567890123456789,,,,....---++     \t\t\r\n\n\n\n\n#GXYZMNgxyzFSP()%;=/\xe9"
 BREAKS = [b"\n", b"\r\n", b"\r", b" ", b"\t", b"\0", b"\xef\xbb\xbf", b"\v"]
@@ -828,7 +744,7 @@ CODE_TOKENS = [*CODE_TOKENS.split(), *b"/ ( ) (a) ; % . - + -- 1e3 0 99".split()
 FORM_TOKENS = b"0|9|EOF|LINE|VERTEX|SEQEND|POLYLINE|70|-1|1e9|1e-9|[I]|[#61]|[|]|L 0,0,1,1|A 0,0,1,0,90|AR 1,1,1,9,0|P1|P4|8191|#"
 FORM_TOKENS = [*FORM_TOKENS.split(b"|"), b"9" * 27, b"9" * 28, *BREAKS]
 WORD_TOKENS = b"--|-|=|--help|-h|--limit=1|--limit|--units=mm10|--form=loops|--code=c|--at=1,1|--rmax=0|1/1|8191|32768|-5,5|,"
-WORD_TOKENS += b"|--form=dxf|--form=pbm|--text=\xe4|--text=b|--justify=left|--flip=yes|--mirror|--pixel=0|--width=10|flatten"
+WORD_TOKENS += b"|--form=dxf|--form=pbm|--text=\xe4|--text=b|--cross=evenodd|--pocket=x|--over=9|trial|--count=1|--justify=left|--flip=yes|--mirror|--pixel=0|--width=10|flatten"
 WORD_TOKENS = [*WORD_TOKENS.split(b"|"), *b"--safe=1|--feed=1|--pitch=1| | --| - | -- |\xc3\xa9|\xff|\n|  |probe| d|0".split(b"|")]
 
 # Where the run isn't root's: the words, the status, the text.

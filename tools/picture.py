@@ -2,6 +2,10 @@
 """Draws a drawing, the path of a G-code program over it, and the points that it leaves uncut, as an SVG file.
 
     python3 tools/picture.py --drawing=oak.loops --code=oak.ngc --bit=571/989 --rmax=150 --pitch=50 --out=oak.svg
+    python3 tools/picture.py --drawing=squares.loops --edges=1,4 --out=squares.svg
+
+The second marks edges by their numbers, as a line `input cross 1,4` names them: such a drawing is drawn too, by the even-odd rule. Without
+`--code` the drawing is all.
 
 The options are those of `engrave_cli cover`, which is run for the points, as `moves` is for the path and `flatten` for the drawing; those
 that say what a drawing is, as `--form=cxf --text=OAK`, are handed on. The drawing is grey, what a move below the surface removes of it
@@ -30,6 +34,7 @@ STYLE = """
 .way { stroke: #14406f; stroke-width: 0.8; fill: none }
 .lift { stroke: #777; stroke-width: 0.8; stroke-dasharray: 4 3; fill: none }
 .left { fill: #c8102e }
+.edge { stroke: #c8102e; stroke-width: 4; stroke-linecap: round; fill: none; opacity: 0.7 }
 .scale { stroke: #222; stroke-width: 1.5; fill: none }
 text { font: 13px sans-serif; fill: #222 }
 """
@@ -96,6 +101,10 @@ class Canvas:
         x, y = MARGIN + self.width * self.scale, MARGIN + self.height * self.scale + FOOT
         self.parts.append(f'<text x="{x:.1f}" y="{y:.1f}" text-anchor="end">{words}</text>')
 
+    def label(self, x, y, words):
+        x, y = self.at(x, y).split(",")
+        self.parts.append(f'<text x="{x}" y="{y}" dx="6" dy="-6">{words}</text>')
+
     def text(self):
         width, height = (round(2 * MARGIN + side * self.scale) for side in (self.width, self.height))
         head = f'<svg xmlns="http://www.w3.org/2000/svg" viewBox="0 0 {width} {height + FOOT}" width="{width}" height="{height + FOOT}">'
@@ -151,22 +160,41 @@ def draw_left(canvas, runs, pitch):
             canvas.disc(x, y, max(pitch / 6, 3 / canvas.scale))
 
 
-def picture(options, shape, asked):
-    drawing = [f"--drawing={options.drawing}", f"--units={options.units}", *shape]
-    loops = read_loops(asked("flatten", *drawing))
-    moves = read_moves(asked("moves", f"--code={options.code}", f"--units={options.units}"))
+def draw_edges(canvas, loops, numbers):
+    """Marks the edges of these numbers, each with its number beside its middle."""
+    edges = [ends for loop in loops for ends in zip(loop, loop[1:] + loop[:1])]
+    for number in numbers:
+        if number not in range(len(edges)):
+            sys.exit(f"the drawing has {len(edges)} edges, numbered from 0")
+        p, q = edges[number]
+        canvas.path([[p, q]], kind="edge")
+        canvas.label((p[0] + q[0]) / 2, (p[1] + q[1]) / 2, number)
+
+
+def draw_program(canvas, options, drawing, moves, asked):
+    """What the moves remove, their ways, and what they leave."""
     bit = [f"--bit={options.bit}", f"--rmax={options.rmax}"]
-    report = asked("cover", *drawing, *bit, f"--code={options.code}", f"--pitch={options.pitch}")
-    runs, counts = read_runs(report)
-    canvas = Canvas([p for loop in loops for p in loop] + [end[:2] for mv in moves for end in mv] or [(0, 0)])
-    if loops:
-        canvas.path(loops, " Z", "outline")
+    runs, counts = read_runs(asked("cover", *drawing, *bit, f"--code={options.code}", f"--pitch={options.pitch}"))
     sn, sd = map(int, options.bit.split("/"))
     canvas.together("cut", lambda: draw_cuts(canvas, moves, sn / sd))
     draw_ways(canvas, moves)
     canvas.together("left", lambda: draw_left(canvas, runs, options.pitch))
-    canvas.bar(*UNITS[options.units])
     canvas.note(f"{counts}, {options.pitch} grid units apart")
+
+
+def picture(options, shape, asked):
+    drawing = [f"--drawing={options.drawing}", f"--units={options.units}", *shape]
+    # A drawing of which edges are marked may cross itself.
+    taken = [] if options.edges is None or any(word.startswith("--cross") for word in shape) else ["--cross=evenodd"]
+    loops = read_loops(asked("flatten", *drawing, *taken))
+    moves = read_moves(asked("moves", f"--code={options.code}", f"--units={options.units}")) if options.code else []
+    canvas = Canvas([p for loop in loops for p in loop] + [end[:2] for mv in moves for end in mv] or [(0, 0)])
+    if loops:
+        canvas.path(loops, " Z", "outline")
+    if options.code:
+        draw_program(canvas, options, drawing, moves, asked)
+    draw_edges(canvas, loops, options.edges or [])
+    canvas.bar(*UNITS[options.units])
     return canvas.text()
 
 
@@ -182,15 +210,18 @@ def write_png(svg):
 def main():
     parser = argparse.ArgumentParser(description=__doc__.splitlines()[0])
     parser.add_argument("--drawing", type=Path, required=True)
-    parser.add_argument("--code", type=Path, required=True)
-    parser.add_argument("--bit", required=True, help="SN/SD")
-    parser.add_argument("--rmax", type=int, required=True)
+    parser.add_argument("--code", type=Path, help="the G-code program; then with --bit and --rmax")
+    parser.add_argument("--bit", help="SN/SD")
+    parser.add_argument("--rmax", type=int)
+    parser.add_argument("--edges", type=lambda text: [int(number) for number in text.split(",")], help="edges to mark, as 1,4")
     parser.add_argument("--units", choices=UNITS, default="mm100")
     parser.add_argument("--pitch", type=int, default=10)
     parser.add_argument("--out", type=Path, required=True, help="the SVG file")
     parser.add_argument("--png", action="store_true", help="a PNG file too")
     parser.add_argument("--program", type=Path, default=BUILT)
     options, shape = parser.parse_known_args()
+    if options.code and not (options.bit and options.rmax):
+        parser.error("--code goes with --bit and --rmax")
 
     def asked(*words):
         """What the program writes; where it refuses, its line is the end."""

@@ -24,13 +24,14 @@ def loops_of(text):
 def joined_loops(text, given):
     """The points of each loop that a file of another form is joined into; `given` are the options of the drawing."""
     import forms
+    import joining
 
     words = dict(word.removeprefix("--").partition("=")[::2] for word in given)
     numbers = {name for name, default in forms.Words._field_defaults.items() if isinstance(default, int)}
     shape = forms.Words(**{name: int(value) if name in numbers else value for name, value in words.items()})
     readers = {"dxf": forms.dxf, "cxf": forms.cxf, "pbm": forms.pbm}
     segments, _ = readers[shape.form](text, shape)
-    return [[f"{x},{y}" for x, y in loop] for loop in forms.joined(segments)]
+    return [[f"{x},{y}" for x, y in loop] for loop in joining.joined(segments)]
 
 
 def edges_of(loops):

@@ -5,6 +5,7 @@ changes nothing. Nor is it to leave out a side of a report's box: no point on it
 """
 
 import math
+from collections import Counter
 
 import definitions as d
 
@@ -111,6 +112,33 @@ def run_by_point(points, left):
     return [(y, x, x) for x, y in points if (x, y) in left]
 
 
+JOINED, RUNS, AXIS_CHAINS, GREATEST_DEPTH = d.is_joined, d.runs_along, d.axis_chains, d.greatest_depth
+
+
+def joined_across_a_gap(edges, bit, p, q):
+    return JOINED(edges, bit, p, q) or d.squared_distance(p.at, q.at) == 4
+
+
+def without_single_points(edges, bit, nodes):
+    return [run for run in RUNS(edges, bit, nodes) if len(run) > 1]
+
+
+def columns_by_rows(loops, bit, limit, over, axis):
+    chains = AXIS_CHAINS(loops, bit, limit, over, axis)
+    return sorted(chains, key=lambda chain: chain[0].at[::-1]) if axis == 1 else chains
+
+
+def pocket_first(loops, job):
+    floors = d.pocket(loops, job.bit, job.limit, job.over, job.pocket)
+    return d.ordered(floors + d.loop_chains(loops, job.bit, job.limit, job.step))
+
+
+def overlapped_left_out(edges, bit, limit, p):
+    """Without the edges that are there an even number of times."""
+    counts = Counter(frozenset(edge) for edge in edges)
+    return GREATEST_DEPTH([edge for edge in edges if d.is_odd(counts[frozenset(edge)])], bit, limit, p)
+
+
 def touches(a, b, v, w):
     return d.side(a, b, v) * d.side(a, b, w) <= 0
 
@@ -157,5 +185,13 @@ WRONG = {
     "removed-above-the-surface": ("removes", above_the_surface_too),
     "points-from-the-corner": ("multiples", from_the_corner),
     "a-run-a-point": ("runs_of_row", run_by_point),
+    "run-across-a-gap": ("is_joined", joined_across_a_gap),
+    "neighbours-always-joined": ("is_joined", lambda edges, bit, p, q: d.squared_distance(p.at, q.at) == 1),
+    "run-of-one-left-out": ("runs_along", without_single_points),
+    "columns-by-rows": ("axis_chains", columns_by_rows),
+    "columns-before-rows": ("WAYS", {**d.WAYS, "both": [1, 0]}),
+    "limit-alone": ("deepest_allowed", lambda bit, limit: limit),
+    "pocket-first": ("plan", pocket_first),
+    "overlapped-left-out": ("greatest_depth", overlapped_left_out),
     "first-move-alone": ("is_left", lambda bit, moves, w: not moves or not d.removes(bit, moves[0], w)),
 }

@@ -5,8 +5,9 @@ out of range anyhow.
 """
 
 import forms as f
+import joining as j
 
-APEX, CROSSES, ELEMENT, PIXELS = f.apex, f.meets_wrongly, f.element_points, f.plain_pixels
+APEX, CROSSES, ELEMENT, PIXELS = f.apex, j.meets_wrongly, f.element_points, f.plain_pixels
 
 
 def halves_down(z, over):
@@ -18,12 +19,12 @@ def bulged_the_other_way(p, q, bulge):
 
 
 def nearest_kept(kept, p, tolerance):
-    found = [q for q in kept if f.is_near(p, q, tolerance)]
+    found = [q for q in kept if j.is_near(p, q, tolerance)]
     return min(found, key=lambda q: (p[0] - q[0]) ** 2 + (p[1] - q[1]) ** 2, default=None)
 
 
 def latest_kept(kept, p, tolerance):
-    return next((q for q in reversed(kept) if f.is_near(p, q, tolerance)), None)
+    return next((q for q in reversed(kept) if j.is_near(p, q, tolerance)), None)
 
 
 def last_with_end(segments, p):
@@ -33,12 +34,12 @@ def last_with_end(segments, p):
 def by_the_second(edges):
     """The first pair by the second number, and then the first."""
     pairs = ((i, j) for j in range(len(edges)) for i in range(j))
-    boxes = [f.box_of(ends) for ends in edges]
-    return next(((i, j) for i, j in pairs if not f.are_apart(boxes[i], boxes[j]) and f.meets_wrongly(edges[i], edges[j])), None)
+    boxes = [j.box_of(ends) for ends in edges]
+    return next(((i, j) for i, j in pairs if not j.are_apart(boxes[i], boxes[j]) and j.meets_wrongly(edges[i], edges[j])), None)
 
 
 def never_along(s, t):
-    return f.cross(f.way(*s), f.way(*t)) != 0 and CROSSES(s, t)
+    return j.cross(j.way(*s), j.way(*t)) != 0 and CROSSES(s, t)
 
 
 def pixel_by_pixel(sides):
@@ -115,6 +116,8 @@ WRONG_FORMS = {
     "overlap-taken": ("meets_wrongly", never_along),
     "crossing-by-the-second": ("first_crossing", by_the_second),
     "no-guard": ("first_crossing", lambda edges: None),
+    "guarded-all-the-same": ("is_guarded", lambda words: True),
+    "refusal-forgotten": ("is_guarded", lambda words: False),
     "last-glyph": ("first_glyphs", dict),
     "surrogates-taken": ("is_character", lambda number: True),
     "clockwise-as-counterclockwise": ("element_points", counterclockwise),
