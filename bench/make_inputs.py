@@ -13,6 +13,15 @@ import random
 import sys
 from pathlib import Path
 
+# So that an import leaves no files beside the sources.
+sys.dont_write_bytecode = True
+
+ROOT = Path(__file__).resolve().parent.parent
+sys.path.append(str(ROOT / "tools"))
+
+import forms
+import joining
+
 SEED = 1
 
 # A ring has the radius RADIUS; its edges go up and down by WAVE.
@@ -25,6 +34,10 @@ FIELD_STRIDES = (9, 3, 1)
 
 # The name plate is 60 by 20 mm: two lines of letters, each in a cell, and each line of an outline in so many pieces.
 LETTERS, CELL_WIDTH, CELL_HEIGHT, PIECES = 20, 300, 1_000, 62
+
+# The lettered plate: its sides, and where its two lines of twenty letters begin and how high they are.
+PLATE_SIDES, PLATE_LEFT, PLATE_HEIGHT = (6_000, 2_000), 100, 300
+PLATE_LINES = ((1_350, "THEQUICKBROWNFOXJUMP"), (350, "SOVERTHELAZYDOGSNO47"))
 
 
 def ring(edges, radius=RADIUS):
@@ -146,6 +159,18 @@ def name_plate(pieces=PIECES):
         x, y = column * CELL_WIDTH + CELL_WIDTH // 2, line * CELL_HEIGHT + CELL_HEIGHT // 2
         for outline in letter(line + column, pieces):
             loops.append([(round(x + dx), round(y + dy)) for dx, dy in outline])
+    return loops
+
+
+def lettered_plate():
+    """A plate of PLATE_SIDES with forty letters of the font that comes with the program, which are left standing."""
+    wide, high = PLATE_SIDES
+    loops = [[(0, 0), (wide, 0), (wide, high), (0, high)]]
+    font = forms.font_of((ROOT / "fonts" / "plate.cxf").read_bytes())
+    for y, text in PLATE_LINES:
+        words = forms.Words(form="cxf", text=text, height=PLATE_HEIGHT)
+        letters = joining.joined(joining.snapped(forms.lay(font, words), words.snap))
+        loops += [[(x + PLATE_LEFT, y + up) for x, up in loop] for loop in letters]
     return loops
 
 

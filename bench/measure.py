@@ -54,6 +54,9 @@ SQUARES_STEP, SQUARES_RMAX = "50", "16"
 # Name plates that are carved: how many pieces each line of an outline has, which gives 1,020 and 9,980 edges, and the bit.
 CARVE_PIECES, CARVE_BIT, CARVE_RMAX = (12, 124), "571/989", "300"
 
+# The bit of the lettered plate, whose floor is milled along every row and every column.
+POCKET_WORDS = ("--bit=571/989", "--rmax=30", "--pocket=both", "--over=1")
+
 # How far apart the points of the name plate's reports are, and how many moves are covered.
 COVER_PITCHES, COVERED_MOVES = (20, 5, 1), 50_000
 
@@ -274,6 +277,14 @@ def carve_case(folder, pieces):
     return Case(f"{edges:,} edges, {contacts:,} contacts", contacts, 0, (drawing,), words, "M2", ())
 
 
+def pocket_case(folder):
+    plate = make_inputs.lettered_plate()
+    drawing = drawing_file(folder, "lettered", lambda: plate)
+    edges, contacts = count_contacts(plate, PLATE_STEP)
+    words = ("carve", f"--drawing={drawing}", *POCKET_WORDS, f"--step={PLATE_STEP}")
+    return Case(f"{edges:,} edges, {contacts:,} contacts", contacts, 0, (drawing,), words, "M2", ())
+
+
 def cover_case(folder, pitch):
     drawing = drawing_file(folder, "plate", make_inputs.name_plate)
     code = code_file(folder, SCRATCHES, COVERED_MOVES)
@@ -336,6 +347,7 @@ def series(folder, count):
         yield f"`contacts`, name plate, `--rmax={rmax}`", (plate_case(folder, rmax) for _ in range(1))
     yield "`contacts`, squares", (squares_case(folder, rows) for rows in SQUARE_ROWS[:count])
     yield "`carve`, name plate", (carve_case(folder, pieces) for pieces in CARVE_PIECES[:count])
+    yield "`carve`, lettered plate, `--pocket=both --over=1`", (pocket_case(folder) for _ in range(1))
     yield "`cover`, name plate", (cover_case(folder, pitch) for pitch in COVER_PITCHES[:count])
 
 
