@@ -117,7 +117,7 @@ def scarce_cases():
         ("d", rows.PROBE, large.RING, 0, "depth 0"),
         ("d", large.IN_DXF, lines, 3, "input cross 0,1"),
         ("d", large.IN_PBM + " --pixel=4", [(b"P4 8191 8191\n", 1), (b"\xff", 8_387_584)], 0, "32764,32764 0,32764 0,0 32764,0"),
-        ("d", rows.SPREAD, [(large.SPREAD_SQUARES, 2)], 3, "input too many chains"),
+        ("d", rows.SPREAD, [(large.SPREAD_SQUARES + large.between(9, 4), 1)], 3, "input too many chains"),
         ("c", rows.MOVES, far, 0, "moves 300000"),
     ):
         for mebibytes in rows.SPACES:
