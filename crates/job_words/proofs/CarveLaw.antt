@@ -25,9 +25,9 @@ carve_some (Some bit) (Some rmax) (Some step) (Some limit) (Some safe) (Some fee
 carve_some (Some bit) (Some rmax) (Some step) (Some limit) (Some safe) (Some feed) (Some pitch) (Some lines) None shape b r t l s f p k o d = none_is_not o
 carve_some (Some bit) (Some rmax) (Some step) (Some limit) (Some safe) (Some feed) (Some pitch) (Some lines) (Some over) None b r t l s f p k o d = none_is_not d
 
-request_in_form : (given : List GivenOption) → list_all is_in_form given ≡ true → is_text_given given ≡ true → IsGiven carve.options given → Is (carve.request (given_value given))
+request_in_form : (given : List GivenOption) → list_all is_in_form given ≡ true → is_text_given given ≡ true → carve.fits (given_value given) ≡ true → IsGiven carve.options given → Is (carve.request (given_value given))
 unfolding carve_options carve_request
-request_in_form given in_form worded are =
+request_in_form given in_form worded fits are =
     let value = given_value given in
     let bit = both (is_some (value (codes "bit"))) _ are.needed in
     let rmax = both (is_some (value (codes "rmax"))) _ bit.1 in

@@ -17,9 +17,9 @@ check_some (Some bit) None shape code b r s c = none_is_not r
 check_some (Some bit) (Some rmax) None code b r s c = none_is_not s
 check_some (Some bit) (Some rmax) (Some shape) None b r s c = none_is_not c
 
-request_in_form : (given : List GivenOption) → list_all is_in_form given ≡ true → is_text_given given ≡ true → IsGiven check.options given → Is (check.request (given_value given))
+request_in_form : (given : List GivenOption) → list_all is_in_form given ≡ true → is_text_given given ≡ true → check.fits (given_value given) ≡ true → IsGiven check.options given → Is (check.request (given_value given))
 unfolding check_options check_request
-request_in_form given in_form worded are =
+request_in_form given in_form worded fits are =
     let value = given_value given in
     let bit = both (is_some (value (codes "bit"))) _ are.needed in
     let rmax = both (is_some (value (codes "rmax"))) _ bit.1 in

@@ -15,9 +15,9 @@ contacts_some None rmax shape t r s = none_is_not t
 contacts_some (Some step) None shape t r s = none_is_not r
 contacts_some (Some step) (Some rmax) None t r s = none_is_not s
 
-request_in_form : (given : List GivenOption) → list_all is_in_form given ≡ true → is_text_given given ≡ true → IsGiven contacts.options given → Is (contacts.request (given_value given))
+request_in_form : (given : List GivenOption) → list_all is_in_form given ≡ true → is_text_given given ≡ true → contacts.fits (given_value given) ≡ true → IsGiven contacts.options given → Is (contacts.request (given_value given))
 unfolding contacts_options contacts_request
-request_in_form given in_form worded are =
+request_in_form given in_form worded fits are =
     let value = given_value given in
     let step = both (is_some (value (codes "step"))) _ are.needed in
     let rmax = both (is_some (value (codes "rmax"))) _ step.1 in

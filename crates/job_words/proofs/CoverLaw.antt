@@ -18,9 +18,9 @@ cover_some (Some bit) (Some rmax) None shape code b r p s c = none_is_not p
 cover_some (Some bit) (Some rmax) (Some pitch) None code b r p s c = none_is_not s
 cover_some (Some bit) (Some rmax) (Some pitch) (Some shape) None b r p s c = none_is_not c
 
-request_in_form : (given : List GivenOption) → list_all is_in_form given ≡ true → is_text_given given ≡ true → IsGiven cover.options given → Is (cover.request (given_value given))
+request_in_form : (given : List GivenOption) → list_all is_in_form given ≡ true → is_text_given given ≡ true → cover.fits (given_value given) ≡ true → IsGiven cover.options given → Is (cover.request (given_value given))
 unfolding cover_options cover_request
-request_in_form given in_form worded are =
+request_in_form given in_form worded fits are =
     let value = given_value given in
     let bit = both (is_some (value (codes "bit"))) _ are.needed in
     let rmax = both (is_some (value (codes "rmax"))) _ bit.1 in

@@ -7,9 +7,9 @@ use Rattle.job_words.specs.Shape.{shape_of, shape_options}
 use Rattle.job_words.proofs.Forms.{Is, shape_some, then_some}
 use Rattle.job_words.proofs.Requests.{IsLawful}
 
-request_in_form : (given : List GivenOption) → list_all is_in_form given ≡ true → is_text_given given ≡ true → IsGiven flatten.options given → Is (flatten.request (given_value given))
+request_in_form : (given : List GivenOption) → list_all is_in_form given ≡ true → is_text_given given ≡ true → flatten.fits (given_value given) ≡ true → IsGiven flatten.options given → Is (flatten.request (given_value given))
 unfolding flatten_options flatten_request
-request_in_form given in_form worded are = then_some _ (shape_of (given_value given)) (shape_some given in_form worded are.needed) (λ shape. refl)
+request_in_form given in_form worded fits are = then_some _ (shape_of (given_value given)) (shape_some given in_form worded are.needed) (λ shape. refl)
 
 pub flatten_law : IsLawful flatten
 unfolding flatten_options shape_options

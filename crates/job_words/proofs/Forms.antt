@@ -7,7 +7,8 @@ use Rattle.std.proofs.lemmas.Slice.Eq.{bytes_eq-Decides}
 use Rattle.clap.proofs.WalkLemmas.{both}
 use Rattle.job_words.specs.Plain.{GivenOption, given_value, has_needed, is_in_form, is_text_for, is_text_given}
 use Rattle.job_words.specs.Shape.{is_worded, lettering_of, shape_of, shape_options}
-use Rattle.job_words.specs.Values.{at_of, bit_of, charspace_of, chord_of, count_of, cross_named, cross_of, feed_of, form_named, form_of, height_of, justify_named, justify_of, letters_of, limit_of, linespace_of, number_of, or_default, over_of, pitch_of, pixel_of, pocket_named, pocket_of, point_of, rmax_of, safe_of, slope_of, snap_of, step_of, text_of, units_named, units_of, width_of, wordspace_of, yes_named, yes_of}
+use Rattle.job_words.specs.Values.{at_of, bit_of, charspace_of, chord_of, count_of, cross_named, cross_of, depth_of, feed_of, form_named, form_of, height_of, justify_named, justify_of, letters_of, limit_of, linespace_of, number_of, or_default, over_of, pitch_of, pixel_of, pocket_named, pocket_of, point_of, radius_of, rmax_of, safe_of, slope_of, snap_of, step_of, text_of, units_named, units_of, width_of, wordspace_of, yes_named, yes_of}
+use Rattle.job_words.specs.declared.request.DrawingWords.{DrawingWords}
 use Rattle.job_words.specs.declared.request.FormWord.{FormWord}
 use Rattle.job_words.specs.declared.request.FormWord.TheVariants as form
 
@@ -115,6 +116,12 @@ module _ (given : List GivenOption) (in_form : list_all is_in_form given ≡ tru
   pub over_some : Is (over_of (value (codes "over")))
   over_some = default_some _ (number_of 1 8191) (value (codes "over")) (fits given in_form (codes "over"))
 
+  pub radius_some : Is (value (codes "radius")) → Is (radius_of (value (codes "radius")))
+  radius_some there = needed_some (number_of 1 8191) (value (codes "radius")) there (fits given in_form (codes "radius"))
+
+  pub depth_some : Is (value (codes "depth")) → Is (depth_of (value (codes "depth")))
+  depth_some there = needed_some (number_of 1 32767) (value (codes "depth")) there (fits given in_form (codes "depth"))
+
   pub count_some : Is (value (codes "count")) → Is (count_of (value (codes "count")))
   count_some there = needed_some (number_of 1 80) (value (codes "count")) there (fits given in_form (codes "count"))
 
@@ -185,3 +192,30 @@ module _ (given : List GivenOption) (in_form : list_all is_in_form given ≡ tru
       then_some _ (cross_of (value (codes "cross"))) cross_some (λ cross.
       then_some _ (value (codes "drawing")) drawing.0 (λ drawing.
       cond_some _ _ (is_worded_by form text (value (codes "text")) text_is (ap (λ o. is_text_for o (value (codes "text"))) (sym form_is) ∙ worded)))))))))))
+
+-- ---- the form of a drawing's words
+
+-- what stands behind a value that is there
+then_by : {A B : Type 0} {P : Type 0} (next : A → Option B) (o : Option A) (y : B) → option_and_then next o ≡ Some y → ((x : A) → o ≡ Some x → next x ≡ Some y → P) → P
+then_by next (Some x) y is later = later x refl is
+then_by next None y is later = absurd (some≢none y is)
+
+-- where it isn't refused, it is what stands in the first branch
+cond_by : {A : Type 0} (test : Bool) (x y : A) → (if test then Some x else None) ≡ Some y → Some x ≡ Some y
+cond_by true x y is = is
+cond_by false x y is = absurd (some≢none y is)
+
+-- a drawing's form is the one that is given
+pub shape_form : (value : List ℕ → Option (List ℕ)) (shape : DrawingWords) → shape_of value ≡ Some shape → form_of (value (codes "form")) ≡ Some shape.form
+unfolding shape_of
+shape_form value shape is =
+    then_by _ (form_of (value (codes "form"))) shape is (λ form form_is is.
+    then_by _ (units_of (value (codes "units"))) shape is (λ units _ is.
+    then_by _ (chord_of (value (codes "chord"))) shape is (λ chord _ is.
+    then_by _ (snap_of (value (codes "snap"))) shape is (λ snap _ is.
+    then_by _ (pixel_of (value (codes "pixel"))) shape is (λ pixel _ is.
+    then_by _ (text_of (value (codes "text"))) shape is (λ text _ is.
+    then_by _ (lettering_of value) shape is (λ lettering _ is.
+    then_by _ (cross_of (value (codes "cross"))) shape is (λ cross _ is.
+    then_by _ (value (codes "drawing")) shape is (λ drawing _ is.
+    form_is ∙ ap (option_map (λ words. words.form)) (cond_by (is_worded form text) _ shape is))))))))))

@@ -5,6 +5,7 @@ pub mod CarveLaw
 pub mod CheckLaw
 pub mod ContactsLaw
 pub mod CoverLaw
+mod FlatLaw
 mod FlattenLaw
 pub mod Forms
 pub mod Laws
@@ -13,5 +14,7 @@ pub mod ProbeLaw
 pub mod Requests
 pub mod Rows
 pub mod Steps
+mod RepairLaw
+mod StrokesLaw
 mod TrialLaw
 pub mod Walks

@@ -13,9 +13,9 @@ moves_some (Some units) (Some code) u c = refl
 moves_some None code u c = none_is_not u
 moves_some (Some units) None u c = none_is_not c
 
-request_in_form : (given : List GivenOption) → list_all is_in_form given ≡ true → is_text_given given ≡ true → IsGiven moves.options given → Is (moves.request (given_value given))
+request_in_form : (given : List GivenOption) → list_all is_in_form given ≡ true → is_text_given given ≡ true → moves.fits (given_value given) ≡ true → IsGiven moves.options given → Is (moves.request (given_value given))
 unfolding moves_options moves_request
-request_in_form given in_form worded are =
+request_in_form given in_form worded fits are =
     moves_some _ _ (units_some given in_form) (both (is_some (given_value given (codes "code"))) _ are.needed).0
 
 pub moves_law : IsLawful moves

@@ -19,9 +19,9 @@ probe_some (Some at) (Some bit) None limit shape a b r l s = none_is_not r
 probe_some (Some at) (Some bit) (Some rmax) None shape a b r l s = none_is_not l
 probe_some (Some at) (Some bit) (Some rmax) (Some limit) None a b r l s = none_is_not s
 
-request_in_form : (given : List GivenOption) → list_all is_in_form given ≡ true → is_text_given given ≡ true → IsGiven probe.options given → Is (probe.request (given_value given))
+request_in_form : (given : List GivenOption) → list_all is_in_form given ≡ true → is_text_given given ≡ true → probe.fits (given_value given) ≡ true → IsGiven probe.options given → Is (probe.request (given_value given))
 unfolding probe_options probe_request
-request_in_form given in_form worded are =
+request_in_form given in_form worded fits are =
     let value = given_value given in
     let at = both (is_some (value (codes "at"))) _ are.needed in
     let bit = both (is_some (value (codes "bit"))) _ at.1 in

@@ -12,8 +12,8 @@ use Rattle.job_words.proofs.Walks.{accepts_plain_words}
 pub record IsLawful (command : Command) : Type 0 where
   pub named : named_among commands command.name ≡ Some command
   pub plain : IsNamed command.options
-  pub in_form : (given : List GivenOption) → list_all is_in_form given ≡ true → is_text_given given ≡ true → IsGiven command.options given
-      → is_some (command.request (given_value given)) ≡ true
+  pub in_form : (given : List GivenOption) → list_all is_in_form given ≡ true → is_text_given given ≡ true → command.fits (given_value given) ≡ true
+      → IsGiven command.options given → is_some (command.request (given_value given)) ≡ true
 
 pub request_of-given : (command : Command) → IsLawful command → (given : List GivenOption) → IsGiven command.options given
     → IsRequestOfGiven command given
@@ -26,5 +26,5 @@ request_of-given command law given are =
 
 pub accepted_in_form : (command : Command) → IsLawful command → (given : List GivenOption) → IsGiven command.options given
     → IsAcceptedInForm command given
-accepted_in_form command law given are in_form worded =
-    ap is_some (request_of-given command law given are) ∙ law.in_form given in_form worded are
+accepted_in_form command law given are in_form worded fits =
+    ap is_some (request_of-given command law given are) ∙ law.in_form given in_form worded fits are

@@ -8,9 +8,9 @@ use Rattle.job_words.specs.Values.{count_of}
 use Rattle.job_words.proofs.Forms.{Is, count_some, then_some}
 use Rattle.job_words.proofs.Requests.{IsLawful}
 
-request_in_form : (given : List GivenOption) → list_all is_in_form given ≡ true → is_text_given given ≡ true → IsGiven trial.options given → Is (trial.request (given_value given))
+request_in_form : (given : List GivenOption) → list_all is_in_form given ≡ true → is_text_given given ≡ true → trial.fits (given_value given) ≡ true → IsGiven trial.options given → Is (trial.request (given_value given))
 unfolding trial_options trial_request
-request_in_form given in_form worded are =
+request_in_form given in_form worded fits are =
     let there = both (is_some (given_value given (codes "count"))) _ are.needed in
     then_some _ (count_of (given_value given (codes "count"))) (count_some given in_form there.0) (λ count. refl)
 

@@ -71,6 +71,8 @@ is_in_form given =
     else if bytes_eq given.name (codes "pitch") then is_some (number_of 1 32767 given.value)
     else if bytes_eq given.name (codes "pocket") then is_some (pocket_named given.value)
     else if bytes_eq given.name (codes "over") then is_some (number_of 1 8191 given.value)
+    else if bytes_eq given.name (codes "radius") then is_some (number_of 1 8191 given.value)
+    else if bytes_eq given.name (codes "depth") then is_some (number_of 1 32767 given.value)
     else if bytes_eq given.name (codes "count") then is_some (number_of 1 80 given.value)
     else if bytes_eq given.name (codes "form") then is_some (form_named given.value)
     else if bytes_eq given.name (codes "units") then is_some (units_named given.value)
@@ -98,7 +100,8 @@ is_text_for form text = true
 abbrev pub is_text_given : List GivenOption → Bool
 is_text_given given = is_text_for (form_of (given_value given (codes "form"))) (given_value given (codes "text"))
 
--- and where each value is in its form and range, and a font has its text, there is such a request
+-- and where each value is in its form and range, a font has its text, and the values fit together, there is such a request
 abbrev pub IsAcceptedInForm : Command → List GivenOption → Type 0
 IsAcceptedInForm command given =
-    list_all is_in_form given ≡ true → is_text_given given ≡ true → is_some (request_of (command.name ∷ map plain_word given)) ≡ true
+    list_all is_in_form given ≡ true → is_text_given given ≡ true → command.fits (given_value given) ≡ true
+    → is_some (request_of (command.name ∷ map plain_word given)) ≡ true

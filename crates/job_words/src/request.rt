@@ -50,6 +50,17 @@ pub enum PocketWord {
     Both,
 }
 
+/// By which lines a floor is milled.
+#[derive(Clone, Copy, Debug, PartialEq, Eq)]
+pub enum WayWord {
+    /// By rows along x.
+    X,
+    /// By columns along y.
+    Y,
+    /// By rows along x, and by columns along y.
+    Both,
+}
+
 /// Yes or no.
 #[derive(Clone, Copy, Debug, PartialEq, Eq)]
 pub enum YesNo {
@@ -166,6 +177,58 @@ pub enum Request {
     /// The drawing in loops form.
     Flatten {
         shape: DrawingWords,
+    },
+    /// The G-code program of a flat bit that mills the floors that the depth limit leaves.
+    Flat {
+        shape: DrawingWords,
+        /// As in `Probe`: the bit that carves the walls.
+        bit: (u32, u32),
+        /// As in `Probe`.
+        rmax: u32,
+        /// The radius of the flat bit, in grid units, from 1 to 8191.
+        radius: u32,
+        /// As in `Probe`.
+        limit: u32,
+        /// As in `Carve`.
+        safe: u32,
+        /// As in `Carve`.
+        feed: u32,
+        /// As in `Carve`.
+        pitch: u32,
+        /// Which way the floors are milled.
+        way: WayWord,
+        /// As in `Carve`.
+        over: u32,
+    },
+    /// The G-code program that follows open lines at one depth. The form of the drawing is `Dxf` or `Cxf`.
+    Strokes {
+        shape: DrawingWords,
+        /// As in `Probe`.
+        bit: (u32, u32),
+        /// As in `Probe`.
+        rmax: u32,
+        /// The depth, in grid units, from 1 to 32,767, at which the bit is at most `rmax` wide.
+        depth: u32,
+        /// As in `Carve`.
+        safe: u32,
+        /// As in `Carve`.
+        feed: u32,
+        /// As in `Carve`.
+        pitch: u32,
+    },
+    /// A G-code program in which moves that leave the drawing have become lifts.
+    Repair {
+        shape: DrawingWords,
+        /// The name of the G-code program's file; it may be empty.
+        code: Text,
+        /// As in `Probe`.
+        bit: (u32, u32),
+        /// As in `Probe`.
+        rmax: u32,
+        /// As in `Carve`.
+        safe: u32,
+        /// As in `Carve`.
+        feed: u32,
     },
     /// A trial of the whole program on a drawing that it makes itself.
     Trial {

@@ -4,9 +4,12 @@ mod carve;
 mod check;
 mod contacts;
 mod cover;
+mod flat;
 mod flatten;
 mod moves;
 mod probe;
+mod repair;
+mod strokes;
 mod trial;
 
 use crate::fault::WordsFault;
@@ -125,6 +128,50 @@ fn text_of_request(alloc: Global, request: &Request) -> Result<String, AllocErro
             let lettering = lettering_text(alloc, shape)?;
             format!(in alloc; "{text} {chord} {snap} {pixel} {lettering}")
         }
+        Request::Flat {
+            shape,
+            bit,
+            rmax,
+            radius,
+            limit,
+            safe,
+            feed,
+            pitch,
+            way,
+            over,
+        } => {
+            let shape = shape_text(alloc, shape)?;
+            let (sn, sd) = *bit;
+            format!(in alloc;
+                "{shape} {sn}/{sd} {rmax} {radius} {limit} {safe} {feed} {pitch} {way:?} {over}"
+            )
+        }
+        Request::Strokes {
+            shape,
+            bit,
+            rmax,
+            depth,
+            safe,
+            feed,
+            pitch,
+        } => {
+            let shape = shape_text(alloc, shape)?;
+            let (sn, sd) = *bit;
+            format!(in alloc; "{shape} {sn}/{sd} {rmax} {depth} {safe} {feed} {pitch}")
+        }
+        Request::Repair {
+            shape,
+            code,
+            bit,
+            rmax,
+            safe,
+            feed,
+        } => {
+            let shape = shape_text(alloc, shape)?;
+            let code = code.as_str();
+            let (sn, sd) = *bit;
+            format!(in alloc; "{shape} {code} {sn}/{sd} {rmax} {safe} {feed}")
+        }
         Request::Trial { count } => format!(in alloc; "{count}"),
     }
 }
@@ -136,9 +183,12 @@ fn lines_ask_for_their_values(rt: HostRuntime) -> Result<(), Fail> {
         check::LINES.as_slice(),
         contacts::LINES.as_slice(),
         cover::LINES.as_slice(),
+        flat::LINES.as_slice(),
         flatten::LINES.as_slice(),
         moves::LINES.as_slice(),
         probe::LINES.as_slice(),
+        repair::LINES.as_slice(),
+        strokes::LINES.as_slice(),
         trial::LINES.as_slice(),
     ] {
         for (line, want) in lines {

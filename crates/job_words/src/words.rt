@@ -2,7 +2,9 @@
 ghost use Rattle.std.specs.Prelude.{◌≡◌, IfOk, Some, None, Err, map, string_bytes};
 ghost use Rattle.job_words.specs.Request.{request_of, IsInRange};
 
-use crate::commands::{carve, check, contacts, cover, flatten, moves, probe, trial};
+use crate::commands::{
+    carve, check, contacts, cover, flat, flatten, moves, probe, repair, strokes, trial,
+};
 use crate::fault::WordsFault;
 use crate::request::Request;
 use std::alloc::Global;
@@ -37,6 +39,12 @@ pub fn read_words(alloc: Global, words: &[String]) -> Result<Request, WordsFault
         flatten::read(alloc, words)
     } else if name == "trial" {
         trial::read(alloc, words)
+    } else if name == "flat" {
+        flat::read(alloc, words)
+    } else if name == "strokes" {
+        strokes::read(alloc, words)
+    } else if name == "repair" {
+        repair::read(alloc, words)
     } else {
         Err(WordsFault::Usage)
     }

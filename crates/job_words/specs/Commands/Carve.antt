@@ -1,8 +1,8 @@
 -- `carve`: the G-code program that carves a drawing.
-use Rattle.std.specs.Prelude.{ℕ, Option, Some, None, List, [], ◌∷◌, codes}
+use Rattle.std.specs.Prelude.{ℕ, Option, Some, None, List, ◌∷◌, codes}
 use Rattle.plane_exact.specs.Cone.{IsCone, IsFromOneTo}
 use Rattle.job_words.specs.Options.{OptionRow}
-use Rattle.job_words.specs.Command.{Command, needed, optional}
+use Rattle.job_words.specs.Command.{Command, always_fits, needed, optional}
 use Rattle.job_words.specs.Shape.{shape_of, shape_options}
 use Rattle.job_words.specs.Values.{bit_of, feed_of, limit_of, over_of, pitch_of, pocket_of, rmax_of, safe_of, step_of}
 use Rattle.job_words.specs.declared.request.DrawingWords.{DrawingWords}
@@ -34,6 +34,7 @@ carve = record {
   name = codes "carve";
   options = carve_options;
   request = carve_request;
+  fits = always_fits;
 }
 
 -- the ranges of its numbers

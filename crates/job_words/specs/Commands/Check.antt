@@ -1,7 +1,7 @@
 -- `check`: whether a G-code program stays within a drawing.
-use Rattle.std.specs.Prelude.{ℕ, Option, Some, None, List, [], ◌∷◌, codes}
+use Rattle.std.specs.Prelude.{ℕ, Option, Some, None, List, ◌∷◌, codes}
 use Rattle.job_words.specs.Options.{OptionRow}
-use Rattle.job_words.specs.Command.{Command, needed, optional}
+use Rattle.job_words.specs.Command.{Command, always_fits, needed}
 use Rattle.job_words.specs.Shape.{shape_of, shape_options}
 use Rattle.job_words.specs.Values.{bit_of, rmax_of}
 use Rattle.job_words.specs.declared.request.DrawingWords.{DrawingWords}
@@ -29,4 +29,5 @@ check = record {
   name = codes "check";
   options = check_options;
   request = check_request;
+  fits = always_fits;
 }

@@ -1,8 +1,8 @@
 -- `contacts`: the greatest disc that touches the outline at each step along it.
-use Rattle.std.specs.Prelude.{ℕ, Option, Some, None, List, [], ◌∷◌, codes}
+use Rattle.std.specs.Prelude.{ℕ, Option, Some, None, List, ◌∷◌, codes}
 use Rattle.plane_exact.specs.Cone.{IsFromOneTo}
 use Rattle.job_words.specs.Options.{OptionRow}
-use Rattle.job_words.specs.Command.{Command, needed, optional}
+use Rattle.job_words.specs.Command.{Command, always_fits, needed}
 use Rattle.job_words.specs.Shape.{shape_of, shape_options}
 use Rattle.job_words.specs.Values.{rmax_of, step_of}
 use Rattle.job_words.specs.declared.request.DrawingWords.{DrawingWords}
@@ -29,6 +29,7 @@ contacts = record {
   name = codes "contacts";
   options = contacts_options;
   request = contacts_request;
+  fits = always_fits;
 }
 
 -- the ranges of its numbers

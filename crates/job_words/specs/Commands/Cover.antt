@@ -1,8 +1,8 @@
 -- `cover`: what a G-code program leaves uncut of a drawing.
-use Rattle.std.specs.Prelude.{ℕ, Option, Some, None, List, [], ◌∷◌, codes}
+use Rattle.std.specs.Prelude.{ℕ, Option, Some, None, List, ◌∷◌, codes}
 use Rattle.plane_exact.specs.Cone.{IsCone, IsFromOneTo}
 use Rattle.job_words.specs.Options.{OptionRow}
-use Rattle.job_words.specs.Command.{Command, needed, optional}
+use Rattle.job_words.specs.Command.{Command, always_fits, needed, optional}
 use Rattle.job_words.specs.Shape.{shape_of, shape_options}
 use Rattle.job_words.specs.Values.{bit_of, pitch_of, rmax_of}
 use Rattle.job_words.specs.declared.request.DrawingWords.{DrawingWords}
@@ -31,6 +31,7 @@ cover = record {
   name = codes "cover";
   options = cover_options;
   request = cover_request;
+  fits = always_fits;
 }
 
 -- the ranges of its numbers

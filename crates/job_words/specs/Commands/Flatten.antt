@@ -1,6 +1,6 @@
 -- `flatten`: the drawing in loops form.
 use Rattle.std.specs.Prelude.{ℕ, Option, Some, List, codes, option_and_then}
-use Rattle.job_words.specs.Command.{Command}
+use Rattle.job_words.specs.Command.{Command, always_fits}
 use Rattle.job_words.specs.Options.{OptionRow}
 use Rattle.job_words.specs.Shape.{shape_of, shape_options}
 use Rattle.job_words.specs.declared.request.Request.{Request}
@@ -20,4 +20,5 @@ flatten = record {
   name = codes "flatten";
   options = flatten_options;
   request = flatten_request;
+  fits = always_fits;
 }

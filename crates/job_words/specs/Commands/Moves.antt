@@ -2,7 +2,7 @@
 use Rattle.std.specs.Prelude.{ℕ, Option, Some, None, List, [], ◌∷◌, codes}
 use Rattle.grid_num.specs.declared.units.Units.{Units}
 use Rattle.job_words.specs.Options.{OptionRow}
-use Rattle.job_words.specs.Command.{Command, needed, optional}
+use Rattle.job_words.specs.Command.{Command, always_fits, needed, optional}
 use Rattle.job_words.specs.Values.{units_of}
 use Rattle.job_words.specs.declared.request.Request.{Request}
 use Rattle.job_words.specs.declared.request.Request.TheVariants as request
@@ -26,4 +26,5 @@ moves = record {
   name = codes "moves";
   options = moves_options;
   request = moves_request;
+  fits = always_fits;
 }

@@ -1,9 +1,9 @@
 -- `probe`: the greatest depth at one point of a drawing.
-use Rattle.std.specs.Prelude.{ℕ, Option, Some, None, List, [], ◌∷◌, codes}
+use Rattle.std.specs.Prelude.{ℕ, Option, Some, None, List, ◌∷◌, codes}
 use Rattle.plane_exact.specs.Cone.{IsCone, IsFromOneTo}
 use Rattle.plane_exact.specs.Plane.{GridPoint}
 use Rattle.job_words.specs.Options.{OptionRow}
-use Rattle.job_words.specs.Command.{Command, needed, optional}
+use Rattle.job_words.specs.Command.{Command, always_fits, needed, optional}
 use Rattle.job_words.specs.Shape.{shape_of, shape_options}
 use Rattle.job_words.specs.Values.{at_of, bit_of, rmax_of, limit_of}
 use Rattle.job_words.specs.declared.request.DrawingWords.{DrawingWords}
@@ -32,6 +32,7 @@ probe = record {
   name = codes "probe";
   options = probe_options;
   request = probe_request;
+  fits = always_fits;
 }
 
 -- the ranges of its numbers

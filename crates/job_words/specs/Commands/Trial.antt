@@ -1,7 +1,7 @@
 -- `trial`: a trial of the whole program on a drawing that it makes itself.
 use Rattle.std.specs.Prelude.{ℕ, Option, Some, List, [], ◌∷◌, codes, option_and_then}
 use Rattle.plane_exact.specs.Cone.{IsFromOneTo}
-use Rattle.job_words.specs.Command.{Command, needed}
+use Rattle.job_words.specs.Command.{Command, always_fits, needed}
 use Rattle.job_words.specs.Options.{OptionRow}
 use Rattle.job_words.specs.Values.{count_of}
 use Rattle.job_words.specs.declared.request.Request.{Request}
@@ -21,6 +21,7 @@ trial = record {
   name = codes "trial";
   options = trial_options;
   request = trial_request;
+  fits = always_fits;
 }
 
 -- the range of its number
