@@ -7,7 +7,7 @@ use Rattle.gcode_text.specs.Moves.{moves_of}
 use Rattle.coverage_report.specs.Report.{IsCoverFault, IsReportOn}
 use Rattle.coverage_report.specs.declared.fault.CoverFault.{CoverFault}
 use Rattle.coverage_report.specs.declared.fault.CoverFault.TheVariants.{TooManyPoints, Memory}
-use Rattle.gcode_text.specs.Path.{IsReadBack, chain_moves, path_text, program_text}
+use Rattle.gcode_text.specs.Path.{IsReadBack, chain_moves, job_note, path_text, program_text}
 use Rattle.gcode_text.specs.declared.job.Job.{Job}
 use Rattle.job_words.specs.declared.request.DrawingWords.{DrawingWords}
 use Rattle.plane_exact.specs.Nodes.{AreWithinLimits, GridNode}
@@ -74,7 +74,7 @@ programmed job pitch asked loops plan given moves uncut text some given_is is mo
         carves = plan_carves loops job.bit job.limit job.step asked job plan some is;
         uncut = uncut;
         report = on_plan;
-        printed = record { front = path_text job plan; is = program };
+        printed = record { front = path_text (job_note job) job plan; is = program };
       };
     }
 

@@ -3,20 +3,19 @@ use Rattle.std.specs.Prelude.{flat_map, map, neg_ℤ}
 use Rattle.std.proofs.Common.{◌≡◌, ℕ, ◌+◌, ◌*◌, ◌≤◌, List, [], ◌∷◌, ◌++◌, length, drop, pos, Ok, sym, ap, ◌∙◌, arith, append_assoc, length-append}
 use Rattle.std.specs.List.{All, AllByRecursion}
 use Rattle.std.proofs.lemmas.List.{length-map}
-use Rattle.std.proofs.lemmas.List.Concat.{flat_map-append}
 use Rattle.std.proofs.lemmas.List.Elements.{All-append, All-cons, All-head, All-map, All-nil, All-push, All-tail, All-weaker, recursion_from_All}
 use Rattle.integer_algebra.specs.Ranges.{IsUpTo}
 use Rattle.plane_exact.specs.Heights.{GridPlace}
 use Rattle.plane_exact.specs.Nodes.{AreWithinLimits, GridNode, IsChain, IsNode, joined, last_place, node_place, place_over}
 use Rattle.plane_exact.specs.Plane.{GridPoint}
-use Rattle.plane_exact.specs.Uncut.{UncutPoints}
 use Rattle.gcode_text.specs.Moves.{moves_of}
-use Rattle.gcode_text.specs.Path.{IsJob, ReadBackLaw, chain_lines, chain_moves, chain_places, closing_lines, closing_text, height_line, job_note, moves_along, motion_word, node_line, path_lines, path_text, program_text, rapid, setup_lines, travel_line}
+use Rattle.gcode_text.specs.Path.{IsJob, ReadBackLaw, TitledLaw, chain_lines, chain_moves, chain_places, closing_lines, closing_text, height_line, job_note, moves_along, motion_word, node_line, path_lines, path_text, rapid, setup_lines, titled_text, travel_line}
 use Rattle.gcode_text.specs.Report.{report_lines}
-use Rattle.gcode_text.specs.Written.{WrittenLine, Note, IsNote, IsWritten, code_text, line_text}
+use Rattle.gcode_text.specs.Written.{WrittenLine, Note, IsNote, IsWritten, code_text}
 use Rattle.gcode_text.specs.declared.job.Job.{Job}
 use Rattle.gcode_text.specs.declared.written.Motion.TheVariants.{Rapid, Straight}
 use Rattle.gcode_text.proofs.Closing.{report_noted}
+use Rattle.gcode_text.proofs.Growing.{code_text-append}
 use Rattle.gcode_text.proofs.Frames.{led_read_back, nothing_read_back, framed_text}
 use Rattle.gcode_text.proofs.Leading.{LeadThrough}
 use Rattle.gcode_text.proofs.Placing.{depth_on, height_leads, height_on, node_leads, travel_leads}
@@ -102,14 +101,18 @@ chains_read_back title job chains notes is_job is_title are_notes are_chains wit
         (record { titled = is_title; of_job = is_job; written = written; noted = are_notes })
         (All-head IsNode first rest (All-head IsChain (first ∷ rest) chains are_chains).each).at (chains_lead job is_job all are_chains first.at).1 (omega (arith, places-le job is_job all))
 
-program_text_is : (job : Job) (chains : List (List GridNode)) (uncut : UncutPoints) → program_text job chains uncut ≡ framed_text (job_note job) job (flat_map (chain_lines job) chains) (report_lines uncut)
+titled_text_is : (title : List ℕ) (job : Job) (chains : List (List GridNode)) (notes : List (List ℕ)) → titled_text title job chains notes ≡ framed_text title job (flat_map (chain_lines job) chains) notes
 unfolding path_text closing_text
-program_text_is job chains uncut =
-    sym (flat_map-append (λ line. line_text line ++ 10 ∷ []) (path_lines job chains) (closing_lines uncut))
-    ∙ ap (λ lines. code_text (Note (job_note job) ∷ lines)) (append_assoc (setup_lines job) (flat_map (chain_lines job) chains) (closing_lines uncut))
+titled_text_is title job chains notes =
+    sym (code_text-append (path_lines title job chains) (closing_lines notes))
+    ∙ ap (λ lines. code_text (Note title ∷ lines)) (append_assoc (setup_lines job) (flat_map (chain_lines job) chains) (closing_lines notes))
 
--- the program of a path
+-- the program of a path, whatever its title and its notes
+pub titled_read_back : TitledLaw
+titled_read_back title job chains notes is_title is_job are_chains within are_notes =
+    ap (moves_of job.units) (titled_text_is title job chains notes) ∙ chains_read_back title job chains notes is_job is_title are_notes are_chains within
+
+-- that of a job, with its report
 pub read_back : ReadBackLaw
 read_back job chains uncut is_job are_chains within is_report =
-    ap (moves_of job.units) (program_text_is job chains uncut)
-    ∙ chains_read_back (job_note job) job chains (report_lines uncut) is_job (job_note_is job) (report_noted uncut is_report) are_chains within
+    titled_read_back (job_note job) job chains (report_lines uncut) (job_note_is job) is_job are_chains within (report_noted uncut is_report)

@@ -1,17 +1,17 @@
 -- The report of a program: each of its lines is read as a note, and its text is that of notes.
 use Rattle.std.specs.Prelude.{codes, flat_map, map}
-use Rattle.std.proofs.Common.{◌≡◌, ℕ, ◌/◌, ◌≤◌, ◌^◌, suc, List, [], ◌∷◌, ◌++◌, ℤ, pos, negsuc, sym, ap, ◌∙◌, refl, arith, append_assoc}
+use Rattle.std.proofs.Common.{◌≡◌, ℕ, ◌/◌, ◌^◌, suc, List, [], ◌∷◌, ◌++◌, ℤ, pos, negsuc, sym, ap, ◌∙◌, refl, arith, append_assoc}
 use Rattle.std.specs.List.{All}
 use Rattle.std.proofs.lemmas.List.Elements.{All-map, All-push, All-weaker}
 use Rattle.grid_num.specs.Written.{decimal_text}
 use Rattle.plane_exact.specs.Nodes.{GridNode}
 use Rattle.plane_exact.specs.Uncut.{GridRun, IsRun, UncutPoints}
-use Rattle.gcode_text.specs.Path.{closing_text, end_line, path_text, program_text}
+use Rattle.gcode_text.specs.Path.{end_line, job_note, path_text, program_text}
 use Rattle.gcode_text.specs.Report.{IsReport, count_line, lines_between, report_lines, run_line}
 use Rattle.gcode_text.specs.Written.{Note, IsNote, code_text, is_note_byte}
 use Rattle.gcode_text.specs.declared.job.Job.{Job}
-use Rattle.gcode_text.proofs.Growing.{code_text-append}
-use Rattle.gcode_text.proofs.Readable.{AreBytes, joined, noted}
+use Rattle.gcode_text.proofs.Growing.{titled_written}
+use Rattle.gcode_text.proofs.Readable.{AreBytes, is_note, joined, noted}
 
 -- ---- its notes
 
@@ -24,11 +24,6 @@ signed (negsuc n) =
     let minus : AreBytes is_note_byte 1 (45 ∷ []) = record { each = refl; short = omega arith } in
     let nothing : AreBytes is_note_byte 0 [] = record { each = refl; short = omega arith } in
     joined minus (joined (noted (suc n / 10 ^ 0)) nothing)
-
-is_note : {most : ℕ} {note : List ℕ} → AreBytes is_note_byte most note → most ≤ 1000 → IsNote note
-is_note bytes few =
-    let short = bytes.short in
-    record { bytes = bytes.each; short = omega arith }
 
 run_noted : (run : GridRun) → IsNote (run_line run)
 unfolding run_line
@@ -66,14 +61,9 @@ runs_text before behind [] = refl
 runs_text before behind (run ∷ runs) = ap (λ text. (before ++ (run_line run ++ behind)) ++ text) (runs_text before behind runs)
 
 -- the text of the path, the report and the end is that of the program
-pub program_written : (job : Job) (chains : List (List GridNode)) (uncut : UncutPoints) (path reported whole : List ℕ) → path ≡ path_text job chains
-    → reported ≡ path ++ lines_between (codes "(") (codes ")\n") (report_lines uncut) → whole ≡ reported ++ code_text (end_line ∷ []) → whole ≡ program_text job chains uncut
-unfolding closing_text
-program_written job chains uncut path reported whole path_is reported_is whole_is =
-    let end = code_text (end_line ∷ []) in
-    let notes = lines_between (codes "(") (codes ")\n") (report_lines uncut) in
-    whole_is
-    ∙ ap (λ text. text ++ end) (reported_is ∙ ap (λ text. text ++ notes) path_is)
-    ∙ append_assoc (path_text job chains) notes end
-    ∙ ap (λ text. path_text job chains ++ (text ++ end)) (notes_text (report_lines uncut))
-    ∙ ap (λ text. path_text job chains ++ text) (sym (code_text-append (map Note (report_lines uncut)) (end_line ∷ [])))
+pub program_written : (job : Job) (chains : List (List GridNode)) (uncut : UncutPoints) (title path reported whole : List ℕ) → title ≡ job_note job
+    → path ≡ path_text title job chains → reported ≡ path ++ lines_between (codes "(") (codes ")\n") (report_lines uncut) → whole ≡ reported ++ code_text (end_line ∷ [])
+    → whole ≡ program_text job chains uncut
+program_written job chains uncut title path reported whole title_is path_is reported_is whole_is =
+    titled_written (job_note job) job chains (report_lines uncut) path reported whole (path_is ∙ ap (λ title. path_text title job chains) title_is)
+    (reported_is ∙ ap (λ text. path ++ text) (notes_text (report_lines uncut))) whole_is

@@ -16,7 +16,7 @@ use Rattle.plane_exact.specs.Nodes.{place_over}
 use Rattle.plane_exact.specs.Plane.{GridPoint, IsOnGrid}
 use Rattle.gcode_text.specs.Grammar.{empty_block, judge_other, judge_words, or_kind}
 use Rattle.gcode_text.specs.Moves.{is_below, judge_move, moves_of, nowhere, spot_of}
-use Rattle.gcode_text.specs.Path.{IsJob, end_line, height_line, moves_through, rapid, setup_lines, travel_line}
+use Rattle.gcode_text.specs.Path.{IsJob, closing_lines, end_line, height_line, moves_through, rapid, setup_lines, travel_line}
 use Rattle.gcode_text.specs.Written.{WrittenLine, Note, Words, IsNote, IsWritten, block_of_line, code_text, moves_of_lines}
 use Rattle.gcode_text.specs.declared.fault.CodeKind.TheVariants as kind
 use Rattle.gcode_text.specs.declared.job.Job.{Job}
@@ -28,13 +28,9 @@ use Rattle.gcode_text.proofs.Leading.{LeadThrough, at_place, led_through, passes
 use Rattle.gcode_text.proofs.Placing.{height_block, height_on, height_read, travel_block, travel_read}
 use Rattle.gcode_text.proofs.Readable.{end_written, setup_written}
 
--- the notes behind the lines of a program, and its end
-abbrev pub framed_end : List (List ℕ) → List WrittenLine
-framed_end notes = map Note notes ++ end_line ∷ []
-
 -- a title, the setup for a job, any lines, any notes and the end
 abbrev pub framed_lines : (title : List ℕ) → Job → List WrittenLine → (notes : List (List ℕ)) → List WrittenLine
-framed_lines title job lines notes = Note title ∷ (setup_lines job ++ (lines ++ framed_end notes))
+framed_lines title job lines notes = Note title ∷ (setup_lines job ++ (lines ++ closing_lines notes))
 
 -- a program of which each line is read as it was meant
 pub record IsProgram (title : List ℕ) (job : Job) (lines : List WrittenLine) (notes : List (List ℕ)) : Type 0 where
@@ -85,17 +81,17 @@ opened title job lines is_job =
 -- ---- behind the lines
 
 -- notes and the end make no move, where the bit isn't below the surface at a place that isn't known
-closed : (units : Units) (number count : ℕ) (old : Position) (notes : List (List ℕ)) → (is_below old.z && not (is_some (spot_of old))) ≡ false → moves_of_lines units number count old (framed_end notes) ≡ Ok []
+closed : (units : Units) (number count : ℕ) (old : Position) (notes : List (List ℕ)) → (is_below old.z && not (is_some (spot_of old))) ≡ false → moves_of_lines units number count old (closing_lines notes) ≡ Ok []
 closed units number count old [] calm = rw calm refl
 closed units number count old (note ∷ notes) calm =
-    passes_still units (Note note) number count old empty_block (framed_end notes) refl (rw calm refl) refl
+    passes_still units (Note note) number count old empty_block (closing_lines notes) refl (rw calm refl) refl
     ∙ closed units (number + 1) count old notes calm
 
 -- ---- whole programs
 
 program_written : (title : List ℕ) (job : Job) (lines : List WrittenLine) (notes : List (List ℕ)) → IsProgram title job lines notes → All IsWritten (framed_lines title job lines notes)
 program_written title job lines notes is =
-    let closing = framed_end notes in
+    let closing = closing_lines notes in
     All-cons IsWritten (Note title) (setup_lines job ++ (lines ++ closing)) is.titled
     (All-append IsWritten (setup_lines job) (lines ++ closing) (setup_written job is.of_job)
     (All-append IsWritten lines closing is.written (All-push IsWritten (map Note notes) end_line (All-map IsWritten Note notes is.noted) end_written)))
@@ -107,7 +103,7 @@ framed_text title job lines notes = code_text (framed_lines title job lines note
 pub nothing_read_back : (title : List ℕ) (job : Job) (notes : List (List ℕ)) → IsProgram title job [] notes → moves_of job.units (framed_text title job [] notes) ≡ Ok []
 nothing_read_back title job notes is =
     moves_of-code_text job.units (framed_lines title job [] notes) (program_written title job [] notes is)
-    ∙ opened title job (framed_end notes) is.of_job
+    ∙ opened title job (closing_lines notes) is.of_job
     ∙ closed job.units 6 0 (raised job.safe) notes (and_left _ true (not_below job.safe))
 
 travels : (safe : ℕ) (p : GridPoint) → judge_move 6 0 (raised safe) (travel_block p) ≡ Ok None
@@ -118,9 +114,9 @@ travels safe p = ap (λ below. cond (below && true) (Err kind.Unplaced) (Ok None
 pub led_read_back : (title : List ℕ) (job : Job) (first : GridPoint) (lines : List WrittenLine) (places : List GridPlace) (notes : List (List ℕ)) → IsProgram title job (travel_line job.units first ∷ lines) notes → IsOnGrid first.x first.y → LeadThrough job.units (place_over first (pos job.safe)) lines places → length places ≤ MOST_MOVES → moves_of job.units (framed_text title job (travel_line job.units first ∷ lines) notes) ≡ Ok (moves_through 7 (place_over first (pos job.safe)) places)
 led_read_back title job first lines places notes is on leads few =
     let travel = travel_line job.units first in
-    let rest = lines ++ framed_end notes in
+    let rest = lines ++ closing_lines notes in
     moves_of-code_text job.units (framed_lines title job (travel ∷ lines) notes) (program_written title job (travel ∷ lines) notes is)
     ∙ opened title job (travel ∷ rest) is.of_job
     ∙ passes_still job.units travel 6 0 (raised job.safe) (travel_block first) rest (travel_read job.units first on) (travels job.safe first) refl
-    ∙ led_through job.units 7 0 (place_over first (pos job.safe)) lines places (framed_end notes) leads (omega arith)
+    ∙ led_through job.units 7 0 (place_over first (pos job.safe)) lines places (closing_lines notes) leads (omega arith)
     (λ number count at. closed job.units number count (at_place at) notes (and-false (is_below (Some at.h))))

@@ -169,6 +169,12 @@ note_digit d small = grind (arith, nat_tests)
 pub noted : (n : ℕ) → AreBytes is_note_byte 64 (decimal n)
 noted n = decimal_bytes note_digit n
 
+-- a note of so many bytes
+pub is_note : {most : ℕ} {note : List ℕ} → AreBytes is_note_byte most note → most ≤ 1000 → IsNote note
+is_note bytes few =
+    let short = bytes.short in
+    record { bytes = bytes.each; short = omega arith }
+
 -- the title of a job
 pub job_note_is : (job : Job) → IsNote (job_note job)
 unfolding job_note

@@ -13,7 +13,7 @@ use Rattle.plane_exact.specs.declared.moves.TheConstants.{MOST_DEPTH}
 use Rattle.gcode_text.specs.Grammar.{Word}
 use Rattle.gcode_text.specs.Moves.{moves_of}
 use Rattle.gcode_text.specs.Report.{IsReport, report_lines}
-use Rattle.gcode_text.specs.Written.{WrittenLine, Note, Words, code_text}
+use Rattle.gcode_text.specs.Written.{WrittenLine, Note, Words, IsNote, code_text}
 use Rattle.gcode_text.specs.declared.job.Job.{Job}
 use Rattle.gcode_text.specs.declared.written.Motion.{Motion}
 use Rattle.gcode_text.specs.declared.written.Motion.TheVariants.{Rapid, Straight}
@@ -86,29 +86,33 @@ chain_lines job (first ∷ rest) =
     ∷ height_line job.units straight (neg_ℤ (pos first.depth))
     ∷ (map (node_line job.units) rest ++ height_line job.units rapid (pos job.safe) ∷ [])
 
--- the lines of a program but for its end
-abbrev pub path_lines : Job → List (List GridNode) → List WrittenLine
-path_lines job chains = Note (job_note job) ∷ (setup_lines job ++ flat_map (chain_lines job) chains)
+-- the lines of a program but for its end: its title, a note; the setup; and its chains
+abbrev pub path_lines : (title : List ℕ) → Job → List (List GridNode) → List WrittenLine
+path_lines title job chains = Note title ∷ (setup_lines job ++ flat_map (chain_lines job) chains)
 
--- the text of a program but for its end
-unfoldable pub path_text : Job → List (List GridNode) → List ℕ
-path_text job chains = code_text (path_lines job chains)
+-- the text of that
+unfoldable pub path_text : (title : List ℕ) → Job → List (List GridNode) → List ℕ
+path_text title job chains = code_text (path_lines title job chains)
 
 -- the program's end: M2
 abbrev pub end_line : WrittenLine
 end_line = Words (word 77 (codes "2") ∷ [])
 
--- what is left uncut, a note a line, and the end
-abbrev pub closing_lines : UncutPoints → List WrittenLine
-closing_lines uncut = map Note (report_lines uncut) ++ end_line ∷ []
+-- notes, a line each, and the end
+abbrev pub closing_lines : (notes : List (List ℕ)) → List WrittenLine
+closing_lines notes = map Note notes ++ end_line ∷ []
 
 -- the text of that
-unfoldable pub closing_text : UncutPoints → List ℕ
-closing_text uncut = code_text (closing_lines uncut)
+unfoldable pub closing_text : (notes : List (List ℕ)) → List ℕ
+closing_text notes = code_text (closing_lines notes)
 
--- the text of a program
+-- the text of a program of this title, with these notes behind its chains
+abbrev pub titled_text : (title : List ℕ) → Job → List (List GridNode) → (notes : List (List ℕ)) → List ℕ
+titled_text title job chains notes = path_text title job chains ++ closing_text notes
+
+-- the text of a job's program: its notes are the report on what is left uncut
 abbrev pub program_text : Job → List (List GridNode) → UncutPoints → List ℕ
-program_text job chains uncut = path_text job chains ++ closing_text uncut
+program_text job chains uncut = titled_text (job_note job) job chains (report_lines uncut)
 
 -- ---- the moves
 
@@ -131,6 +135,13 @@ moves_along (start ∷ places) = moves_through 7 start places
 -- the moves of the program
 unfoldable pub chain_moves : Job → List (List GridNode) → List LineMove
 chain_moves job chains = moves_along (flat_map (chain_places job) chains)
+
+-- whatever its title and its notes, the program of a path within the limits is read as exactly the moves of its chains
+abbrev pub TitledLaw : Type 0
+TitledLaw =
+    (title : List ℕ) (job : Job) (chains : List (List GridNode)) (notes : List (List ℕ))
+    → IsNote title → IsJob job → All IsChain chains → AreWithinLimits chains → All IsNote notes
+    → moves_of job.units (titled_text title job chains notes) ≡ Ok (chain_moves job chains)
 
 -- the text of the program is read as exactly its moves
 abbrev pub IsReadBack : Job → List (List GridNode) → UncutPoints → Type 0

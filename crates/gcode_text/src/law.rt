@@ -1,5 +1,5 @@
 // What written programs are worth. A law is the contract of a function that does nothing.
-ghost use Rattle.gcode_text.specs.Path.{ReadBackLaw};
+ghost use Rattle.gcode_text.specs.Path.{ReadBackLaw, TitledLaw};
 ghost use Rattle.gcode_text.specs.Written.{WrittenLinesLaw};
 
 /// A text of written lines is read as their words say: its moves are those of the lines, one after the other.
@@ -7,7 +7,13 @@ pub fn written_lines_law()
     ensures { WrittenLinesLaw }
 {}
 
-/// The program of a path within the limits is read as exactly the moves through the nodes of its chains.
+/// The program of a path within the limits is read as exactly the moves through the nodes of its chains, whatever its title and its
+/// notes say.
+pub fn titled_law()
+    ensures { TitledLaw }
+{}
+
+/// The same of a job's program, whose notes are the report on what it leaves uncut.
 pub fn read_back_law()
     ensures { ReadBackLaw }
 {}

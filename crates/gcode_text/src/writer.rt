@@ -26,19 +26,25 @@ pub fn write_code(
     // It is read as exactly the moves through the chains' nodes.
     ensures read_back { IfOk result (λ _. AreWithinLimits chains.now → IsReadBack job.now chains.now uncut.now) }
 {
-    let mut code = write_path(alloc, job, chains)?;
+    let title = title_of(alloc, job)?;
+    let mut code = write_path(alloc, title.as_str(), job, chains)?;
     write_report(uncut, "(", ")\n", &mut code)?;
     write_end(&mut code)?;
     Ok(code)
 }
 
-// The program but for its report and its end.
-fn write_path(alloc: Global, job: &Job, chains: &[Chain]) -> Result<Vec<u8>, AllocError>
-    ensures text { IfOk result (λ code. code.items ≡ path_text job.now chains.now) }
+/// The program of this title but for its notes and its end.
+pub fn write_path(
+    alloc: Global,
+    title: &str,
+    job: &Job,
+    chains: &[Chain],
+) -> Result<Vec<u8>, AllocError>
+    ensures text { IfOk result (λ code. code.items ≡ path_text title.now job.now chains.now) }
     ensures range { IfOk result (λ _. All IsChain chains.now) }
 {
     let mut code = Vec::new(alloc);
-    write_note(note_of(alloc, job)?.as_str(), &mut code)?;
+    write_note(title, &mut code)?;
     write_setup(job, &mut code)?;
     write_chains(job, chains, &mut code)?;
     Ok(code)
@@ -92,8 +98,8 @@ fn write_setup(job: &Job, code: &mut Vec<u8>) -> Result<(), AllocError>
 }
 
 #[tactic(auto, unfolding(crate::specs::Path::job_note))]
-fn note_of(alloc: Global, job: &Job) -> Result<String, AllocError>
-    ensures { IfOk result (λ note. string_bytes note ≡ job_note job.now) }
+fn title_of(alloc: Global, job: &Job) -> Result<String, AllocError>
+    ensures { IfOk result (λ title. string_bytes title ≡ job_note job.now) }
 {
     let (sn, sd, rmax) = (job.bit.sn(), job.bit.sd(), job.bit.rmax());
     format!(in alloc;

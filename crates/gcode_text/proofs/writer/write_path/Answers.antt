@@ -5,5 +5,5 @@ use Rattle.gcode_text.proofs.writer.write_path.Goals as goal
 
 pub returns-clause-text : goal.returns-clause-text
 returns-clause-text c =
-    path_written c.args.job.now c.args.chains.now _ _ _ _ (c.in_ok-note_of.ensures) (search rules)
+    path_written c.args.title.now c.args.job.now c.args.chains.now _ _ _ (search rules)
     c.in_ok-write_setup.ensures c.in_ok-write_chains.ensures.text
