@@ -15,4 +15,5 @@ pub mod Placing
 pub mod Readable
 pub mod Reported
 pub mod Stepped
+pub mod StrokeNotes
 pub mod Walks

@@ -9,6 +9,7 @@ pub mod Reading
 pub mod Report
 pub mod Runs
 pub mod Stepping
+pub mod Strokes
 pub mod Walk
 pub mod Within
 pub mod Words

@@ -6,7 +6,7 @@
 //!
 //! And the other way: `write_code` writes the program of a job with a report on what it leaves uncut, its clause `text` says which
 //! text, and `read_back` that it is read as exactly the moves through the nodes of its chains. `chain_moves` gives these moves
-//! without the text.
+//! without the text. `write_strokes` writes the program of strokes that are engraved, which is read back likewise.
 #![tactic(auto)]
 
 mod block;
@@ -22,6 +22,7 @@ mod reader;
 mod report;
 mod state;
 mod stepper;
+mod strokes;
 #[cfg(test)]
 mod tests;
 mod words;
@@ -37,4 +38,5 @@ pub use reader::{Reader, read_code};
 pub use report::write_report;
 pub use state::{MOST_CODE_BYTES, Turn};
 pub use stepper::Stepper;
+pub use strokes::write_strokes;
 pub use writer::write_code;

@@ -4,7 +4,7 @@ ghost use Rattle.plane_exact.specs.Nodes.{AreWithinLimits};
 ghost use Rattle.gcode_text.specs.Path.{IsJob};
 
 use super::{MOST, text_of};
-use crate::{Job, chain_moves, read_code, write_code, write_report};
+use crate::{Job, chain_moves, read_code, write_code, write_report, write_strokes};
 use grid_num::Units;
 use plane_exact::{Bit, Chain, Node, Point, Run, Uncut};
 use std::alloc::Global;
@@ -17,6 +17,10 @@ const PLATE: &str =
 
 const EMPTY: &str =
     "(bit 1/1 rmax 2 limit 32767 step 2)\nG21\nG90\nF500\nG0 Z2.00\n(uncut 0 of 0)\nM2\n";
+
+const STROKES: &str =
+    "(strokes 3 chains 1 depth 10)\nG21\nG90\nF500\nG0 Z2.00\nG0 X0.00 Y0.00\nG1 Z-0.10\n\
+    G1 X1.00 Y0.00 Z-0.10\nG1 X1.00 Y1.00 Z-0.10\nG1 X0.00 Y1.00 Z-0.10\nG0 Z2.00\n(cut 7 of 9)\nM2\n";
 
 fn job() -> Result<Job, Fail>
     ensures { IfOk result (λ job. IsJob job) }
@@ -78,6 +82,21 @@ fn texts_of_programs(rt: HostRuntime) -> Result<(), Fail> {
     let run = Run { y: 2, x0: 2, x1: 2 };
     expect_code(&rt, alloc, &chains, &uncut(alloc, &[run], 1, 9)?, PLATE)?;
     expect_code(&rt, alloc, &[], &uncut(alloc, &[], 0, 0)?, EMPTY)
+}
+
+#[test]
+fn text_of_three_strokes(rt: HostRuntime) -> Result<(), Fail> {
+    let alloc = rt.alloc();
+    let mut chain = Chain::one(alloc, node(0, 0, 10)?)?;
+    for (x, y) in [(100, 0), (100, 100), (0, 100)] {
+        chain.push(node(x, y, 10)?)?;
+    }
+    let mut chains = Vec::new(alloc);
+    chains.push(chain)?;
+    let code = write_strokes(alloc, &job()?, 3, 10, &chains, 7, 9)?;
+    let code = String::from_utf8(code).map_err(|_| "text")?;
+    assert_eq!(rt; code.as_str(), STROKES);
+    Ok(())
 }
 
 #[test]
