@@ -4,10 +4,10 @@ use Rattle.std.proofs.Common.{◌≡◌, ℕ, ◌+◌, ◌*◌, ◌≤◌, lengt
 use Rattle.plane_exact.specs.Cone.{Cone}
 use Rattle.plane_exact.specs.Plane.{GridPoint}
 use Rattle.plane_exact.specs.declared.moves.LineMove.{LineMove}
-use Rattle.coverage_report.specs.Counts.{IsCountIn, IsCutCount}
+use Rattle.coverage_report.specs.Counts.{AreCounts, IsCountIn}
 use Rattle.coverage_report.specs.Cuts.{AreRowCuts, IsCut}
 use Rattle.coverage_report.specs.Lattices.{IsInRows, PointLattice, row_at}
-use Rattle.coverage_report.specs.Points.{IsMarkedPoint}
+use Rattle.coverage_report.specs.Points.{IsCount, IsMarkedPoint}
 use Rattle.coverage_report.specs.Rows.{set_points}
 use Rattle.coverage_report.specs.Taken.{IsAmong}
 use Rattle.coverage_report.specs.declared.cover.TheConstants.{MOST_POINTS}
@@ -34,11 +34,11 @@ module _ (cone : Cone) (moves : List LineMove) (lattice : PointLattice) (apart :
   -- all rows are the points that are reported on
   pub cut_counted : (IsReported : GridPoint → Type 0) (cut : ℕ) → ((p : GridPoint) → IsReported p ↔ IsInRows lattice lattice.rows p)
       → (lattice.rows * lattice.columns) ≤ MOST_POINTS → IsCountIn lattice lattice.rows (IsCut cone moves) cut
-      → IsCutCount IsReported cone moves cut (lattice.rows * lattice.columns)
+      → AreCounts IsReported (IsCut cone moves) cut (lattice.rows * lattice.columns)
   cut_counted IsReported cut are few counted = record {
     few = few;
     all = report_count IsReported lattice apart are;
-    removed = record {
+    some = record {
       points = counted.points;
       all = same_all (IsAmong lattice lattice.rows (IsCut cone moves)) (IsMarkedPoint IsReported (IsCut cone moves)) counted.points counted.are.all
           (λ p among. record { reported = (are p).1 among.on; marked = among.so })
@@ -48,9 +48,26 @@ module _ (cone : Cone) (moves : List LineMove) (lattice : PointLattice) (apart :
   }
 
 -- no point is reported on
-pub none_cut : (cone : Cone) (moves : List LineMove) (IsReported : GridPoint → Type 0) → ((p : GridPoint) → ¬ IsReported p) → IsCutCount IsReported cone moves 0 0
+pub none_cut : (cone : Cone) (moves : List LineMove) (IsReported : GridPoint → Type 0) → ((p : GridPoint) → ¬ IsReported p) → AreCounts IsReported (IsCut cone moves) 0 0
 none_cut cone moves IsReported none = record {
   few = omega arith;
   all = none_count IsReported none;
-  removed = none_count (IsMarkedPoint IsReported (IsCut cone moves)) (λ p of. none p of.reported);
+  some = none_count (IsMarkedPoint IsReported (IsCut cone moves)) (λ p of. none p of.reported);
+}
+
+pub count_same : (P Q : GridPoint → Type 0) (count : ℕ) → ((p : GridPoint) → P p ↔ Q p) → IsCount P count → IsCount Q count
+count_same P Q count same is = record { points = is.points; all = same_all P Q is.points is.all (λ p. (same p).0) (λ p. (same p).1); counted = is.counted }
+
+-- what is told of marked points is told of others that are the same
+pub counts_same : (IsReported IsReported' IsMarked IsMarked' : GridPoint → Type 0) (marked points : ℕ) → ((p : GridPoint) → IsReported p ↔ IsReported' p)
+    → ((p : GridPoint) → IsMarked p ↔ IsMarked' p) → AreCounts IsReported IsMarked marked points → AreCounts IsReported' IsMarked' marked points
+counts_same IsReported IsReported' IsMarked IsMarked' marked points same also counts = record {
+  few = counts.few;
+  all = count_same IsReported IsReported' points same counts.all;
+  some = count_same (IsMarkedPoint IsReported IsMarked) (IsMarkedPoint IsReported' IsMarked') marked
+      (λ p. (
+        (λ of. record { reported = (same p).0 of.reported; marked = (also p).0 of.marked }),
+        (λ of. record { reported = (same p).1 of.reported; marked = (also p).1 of.marked }),
+      ))
+      counts.some;
 }

@@ -1,7 +1,7 @@
 // How many points of a box a program cuts.
 ghost use Rattle.std.specs.Prelude.{◌≡◌, IfOk, MatchResult};
 ghost use Rattle.plane_exact.specs.Cone.{IsFromOneTo};
-ghost use Rattle.coverage_report.specs.Counts.{IsCountIn, IsCutCount};
+ghost use Rattle.coverage_report.specs.Counts.{AreCounts, IsCountIn};
 ghost use Rattle.coverage_report.specs.Cuts.{IsCut};
 ghost use Rattle.coverage_report.specs.Lattices.{IsBoxPoint};
 ghost use Rattle.coverage_report.specs.Report.{IsReportFault};
@@ -34,7 +34,7 @@ pub fn count_cut(
     pitch: u32,
 ) -> Result<CutCount, CoverFault>
     requires { IsFromOneTo MOST_PITCH pitch }
-    ensures { MatchResult result (λ count. IsCutCount (IsBoxPoint bounds.low bounds.high pitch) bit.now moves.now count.cut count.points) (λ fault. IsReportFault (IsBoxPoint bounds.low bounds.high pitch) fault) }
+    ensures { MatchResult result (λ count. AreCounts (IsBoxPoint bounds.low bounds.high pitch) (IsCut bit.now moves.now) count.cut count.points) (λ fault. IsReportFault (IsBoxPoint bounds.low bounds.high pitch) fault) }
 {
     let Some(lattice) = lattice_of(bounds, pitch) else {
         return Ok(CutCount { cut: 0, points: 0 });

@@ -1,6 +1,7 @@
 -- Answers the goals of `count_cut`.
 use Rattle.std.proofs.Common.{arith, subst, sym}
-use Rattle.coverage_report.specs.Counts.{IsCutCount}
+use Rattle.coverage_report.specs.Counts.{AreCounts}
+use Rattle.coverage_report.specs.Cuts.{IsCut}
 use Rattle.coverage_report.specs.Lattices.{IsBoxPoint}
 use Rattle.coverage_report.proofs.CutCounts.{cut_counted}
 use Rattle.coverage_report.proofs.Reports.{many_points}
@@ -22,5 +23,5 @@ returns c =
     let same = is.same in
     let low = c.requires.low in
     let count = c.count-points.ensures in
-    subst (IsCutCount IsReported c.args.bit.now c.args.moves.now c.in_ok-cut.cut) (sym count)
+    subst (AreCounts IsReported (IsCut c.args.bit.now c.args.moves.now) c.in_ok-cut.cut) (sym count)
     (cut_counted c.args.bit.now c.args.moves.now lattice (omega arith) IsReported c.in_ok-cut.cut is.points (omega arith) c.in_ok-cut.ensures)
