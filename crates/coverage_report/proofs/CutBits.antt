@@ -2,7 +2,7 @@
 use mir.Syntax.{w64}
 use lib.LanesLaws.{length-zip2}
 use Rattle.std.specs.Simd.Lanes.{zip2}
-use Rattle.std.proofs.Common.{◌≡◌, ℕ, ◌+◌, ◌-◌, ◌*◌, ◌/◌, ◌%◌, ◌^◌, ◌<◌, Bool, true, false, ◌&&◌, cond, not, nat_lt, min, max, List, length, get_or, set, drop, replicate, bit_and, bit_or, refl, arith, ap, ap₂, ◌∙◌, inl, inr}
+use Rattle.std.proofs.Common.{◌≡◌, ℕ, ◌+◌, ◌-◌, ◌*◌, ◌/◌, ◌%◌, ◌^◌, ◌<◌, ◌≤◌, Bool, true, false, ◌&&◌, cond, not, nat_lt, min, max, List, length, get_or, set, drop, replicate, bit_and, bit_or, refl, arith, ap, ap₂, ◌∙◌, inl, inr}
 use Rattle.std.specs.Int.{bit_at, bit_not}
 use Rattle.std.proofs.lemmas.Bool.{cases_eq, cases_lt}
 use Rattle.std.proofs.lemmas.Bool.Decides.{nat_tests}
@@ -85,6 +85,10 @@ none_set n i = elim (cases_lt (i / 64) n) [
   | inl within ↦ ap (λ v. bit_at v (i % 64)) (get_or-replicate n (i / 64) 0 0 within) ∙ bit_at-zero (i % 64)
   | inr past ↦ ap (λ v. bit_at v (i % 64)) (get_or_past (replicate n 0) (i / 64) 0 (simp length-replicate past)) ∙ bit_at-zero (i % 64)
 ]
+
+-- behind the words no bit is 1
+pub none_past : (words : List ℕ) (i : ℕ) → 64 * length words ≤ i → bit_in words i ≡ 0
+none_past words i past = ap (λ v. bit_at v (i % 64)) (get_or_past words (i / 64) 0 (omega arith)) ∙ bit_at-zero (i % 64)
 
 -- a bit of the words of the row k, among those of all rows
 pub row_bit : (width k i : ℕ) (words : List ℕ) → i < 64 * width → bit_in (row_words width k words) i ≡ bit_in words (64 * (k * width) + i)

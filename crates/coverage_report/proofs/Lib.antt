@@ -1,6 +1,7 @@
 -- The lemmas of the crate.
 pub mod Alls
 pub mod CutBits
+pub mod CutCounts
 pub mod CutGrids
 pub mod CutPlaces
 pub mod JoinedRuns

@@ -13,9 +13,9 @@ use Rattle.coverage_report.specs.Rows.{PointRow}
 abbrev pub IsCut : Cone → List LineMove → GridPoint → Type 0
 IsCut cone moves p = Any (λ move. Removes cone move.mv (rational p)) moves
 
--- the bits that are 1 are those of the row's points that some move removes; nothing is said of the bits behind them
+-- the bits that are 1 are those of the row's points that some move removes
 pub record AreRowCuts (cone : Cone) (moves : List LineMove) (row : PointRow) (words : List ℕ) : Type 0 where
-  pub bits : (i : ℕ) → i < row.count → IsSetIn words i ↔ IsCut cone moves (point_of_row row.y row.x row.pitch i)
+  pub bits : (i : ℕ) → IsSetIn words i ↔ ((i < row.count) × IsCut cone moves (point_of_row row.y row.x row.pitch i))
 
 -- the words of the row k, where each row has so many
 abbrev pub row_words : (width k : ℕ) → List ℕ → List ℕ
@@ -42,8 +42,14 @@ pub record IsRowCutBy (cone : Cone) (mv : Move) (row : PointRow) (start : ℕ) (
 abbrev pub IsCutAt : (width k i : ℕ) → List ℕ → Type 0
 IsCutAt width k i words = IsSetIn words (64 * (k * width) + i)
 
+-- of the words of each row, the bits behind those of its points are as they were
+abbrev pub AreKeptBehind : PointLattice → (width : ℕ) → (old new : List ℕ) → Type 0
+AreKeptBehind lattice width old new =
+    (k i : ℕ) → k < lattice.rows → lattice.columns ≤ i → i < 64 * width → bit_in new (64 * (k * width) + i) ≡ bit_in old (64 * (k * width) + i)
+
 -- the points of the lattice of which this is so came to those that are cut
 pub record AreAdded (IsSo : GridPoint → Type 0) (lattice : PointLattice) (width : ℕ) (old new : List ℕ) : Type 0 where
+  pub behind : AreKeptBehind lattice width old new
   pub bits : (k i : ℕ) → k < lattice.rows → i < lattice.columns
       → IsCutAt width k i new ↔ (IsCutAt width k i old ⊎ IsSo (point_of_row (row_at lattice k).y lattice.x lattice.pitch i))
 

@@ -1,6 +1,8 @@
 -- The definitions of the crate.
+pub mod Counts
 pub mod Cuts
 pub mod Lattices
+pub mod Marked
 pub mod Points
 pub mod Report
 pub mod RowRuns

@@ -1,4 +1,4 @@
--- The points of a report: which there are, which are inside the drawing, which of these no move removes, and how many.
+-- The points of a report: which there are, which of them are marked, which of these no move removes, and how many.
 use Rattle.std.specs.Prelude.{◌≡◌, ◌⊎◌, ℕ, List, length, All, AllPairs, Any, Contains, ◌<ℤ◌}
 use Rattle.plane_exact.specs.Cone.{Cone}
 use Rattle.plane_exact.specs.Plane.{GridPoint, rational}
@@ -18,15 +18,19 @@ pub record IsReportPoint (loops : List (List GridPoint)) (pitch : ℕ) (p : Grid
   pub box : IsBoxOf (points_of loops) low high
   pub within : IsInBox low high p
 
--- a point of the report that the drawing holds
-pub record IsDrawingPoint (loops : List (List GridPoint)) (pitch : ℕ) (p : GridPoint) : Type 0 where
-  pub reported : IsReportPoint loops pitch p
-  pub inside : IsInside (edges_of loops) (rational p)
+-- a point that is reported on, and marked
+pub record IsMarkedPoint (IsReported IsMarked : GridPoint → Type 0) (p : GridPoint) : Type 0 where
+  pub reported : IsReported p
+  pub marked : IsMarked p
 
 -- one of these that no moment of any move removes
-pub record IsUncutPoint (loops : List (List GridPoint)) (cone : Cone) (moves : List LineMove) (pitch : ℕ) (p : GridPoint) : Type 0 where
-  pub drawn : IsDrawingPoint loops pitch p
+pub record IsUncutPoint (IsReported IsMarked : GridPoint → Type 0) (cone : Cone) (moves : List LineMove) (p : GridPoint) : Type 0 where
+  pub marked : IsMarkedPoint IsReported IsMarked p
   pub spared : ¬ Any (λ move. Removes cone move.mv (rational p)) moves
+
+-- the drawing holds p
+abbrev pub IsDrawn : List (List GridPoint) → GridPoint → Type 0
+IsDrawn loops p = IsInside (edges_of loops) (rational p)
 
 -- the order of a report: rows upwards, and each row to the right
 abbrev pub IsBefore : GridPoint → GridPoint → Type 0

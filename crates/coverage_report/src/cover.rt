@@ -1,19 +1,18 @@
-// The report on the points that a program leaves uncut.
+// The report on the marked points that a program leaves uncut.
 ghost use Rattle.std.specs.Prelude.{◌≡◌, ◌+◌, ◌/◌, List, length, IfOk, MatchOption, MatchResult};
 ghost use Rattle.plane_exact.specs.Cone.{Cone, IsFromOneTo};
 ghost use Rattle.plane_exact.specs.Plane.{GridPoint};
-ghost use Rattle.engrave_model.specs.Drawing.{edges_of};
 ghost use Rattle.coverage_report.specs.Cuts.{AreRowCuts};
 ghost use Rattle.coverage_report.specs.Lattices.{IsLatticeOf};
 ghost use Rattle.coverage_report.specs.Points.{IsReportPoint};
-ghost use Rattle.coverage_report.specs.Report.{IsCoverFault, IsReportOn};
+ghost use Rattle.coverage_report.specs.Report.{IsCoverFault, IsReportOf, IsReportOn};
 ghost use Rattle.coverage_report.specs.Taken.{AreRowsTaken, IsRowTaken};
 
 use crate::bits::count_set;
 use crate::cuts::cuts_of;
 use crate::fault::CoverFault;
 use crate::lattice::{Lattice, lattice_of};
-use crate::marks::clear_cut;
+use crate::marks::{Marks, clear_cut};
 use crate::row::Row;
 use crate::runs::push_runs;
 use depth_rule::Scene;
@@ -39,6 +38,22 @@ pub fn uncut(
     requires { IsFromOneTo MOST_PITCH pitch }
     ensures { MatchResult result (λ uncut. IsReportOn scene.now bit.now moves.now pitch uncut) (λ fault. IsCoverFault scene.now pitch fault) }
 {
+    marked_uncut(alloc, scene, scene, bit, moves, pitch)
+}
+
+/// Which marked points, of those of the report of `uncut`, no moment of any move removes, in the same order. `drawing` counts the marked
+/// points in place of those inside the drawing.
+pub fn marked_uncut<M: Marks>(
+    alloc: Global,
+    scene: &Scene,
+    marks: &M,
+    bit: &Bit,
+    moves: &[LineMove],
+    pitch: u32,
+) -> Result<Uncut, CoverFault>
+    requires { IsFromOneTo MOST_PITCH pitch }
+    ensures { MatchResult result (λ uncut. IsReportOf (IsReportPoint scene.now pitch) (M.is_marked marks.now) bit.now moves.now pitch uncut) (λ fault. IsCoverFault scene.now pitch fault) }
+{
     let Some(lattice) = report_lattice(scene, pitch) else {
         return Ok(Uncut {
             runs: Vec::new(alloc),
@@ -49,7 +64,7 @@ pub fn uncut(
     if lattice.count() > MOST_POINTS {
         return Err(CoverFault::TooManyPoints);
     }
-    Ok(take_rows(alloc, scene, bit, moves, &lattice)?)
+    Ok(take_rows(alloc, marks, bit, moves, &lattice)?)
 }
 
 // The points of the report; None where it has none.
@@ -60,15 +75,15 @@ fn report_lattice(scene: &Scene, pitch: u32) -> Option<Lattice>
     lattice_of(scene.bounds()?, pitch)
 }
 
-// The points of the lattice that are inside and that no move removes, row by row upwards. One buffer holds the bits of a row.
-fn take_rows(
+// The points of the lattice that are marked and that no move removes, row by row upwards. One buffer holds the bits of a row.
+fn take_rows<M: Marks>(
     alloc: Global,
-    scene: &Scene,
+    marks: &M,
     bit: &Bit,
     moves: &[LineMove],
     lattice: &Lattice,
 ) -> Result<Uncut, AllocError>
-    ensures { IfOk result (λ uncut. AreRowsTaken (edges_of scene.now) bit.now moves.now lattice.now lattice.now.rows uncut.runs uncut.drawing uncut.left) }
+    ensures { IfOk result (λ uncut. AreRowsTaken (M.is_marked marks.now) bit.now moves.now lattice.now lattice.now.rows uncut.runs uncut.drawing uncut.left) }
 {
     let cuts = cuts_of(alloc, lattice, bit, moves)?;
     let mut bits = vec![in alloc; 0; (lattice.columns() as usize + 63) / 64]?;
@@ -78,7 +93,7 @@ fn take_rows(
     for k in 0..lattice.rows() {
         let row = lattice.row(k);
         let cut = cuts.row(k);
-        let counts = take_row(scene, &row, cut, &mut bits, &mut runs)?;
+        let counts = take_row(marks, &row, cut, &mut bits, &mut runs)?;
         drawing += counts.drawing;
         left += counts.left;
     }
@@ -89,7 +104,7 @@ fn take_rows(
     })
 }
 
-// How many points of a row the drawing holds, and how many of these no move removes.
+// How many points of a row are marked, and how many of these no move removes.
 #[derive(Clone, Copy)]
 struct Counts {
     drawing: u64,
@@ -97,8 +112,8 @@ struct Counts {
 }
 
 // The same of one row; `cut` tells which of its points moves remove, and its bits are what `bits` are afterwards.
-fn take_row(
-    scene: &Scene,
+fn take_row<M: Marks>(
+    marks: &M,
     row: &Row,
     cut: &[u64],
     bits: &mut [u64],
@@ -106,9 +121,9 @@ fn take_row(
 ) -> Result<Counts, AllocError>
     requires words { length bits.old ≡ (row.now.count + 63) / 64 }
     requires cut { length cut.now ≡ (row.now.count + 63) / 64 }
-    ensures { (cone : Cone) (moves : List LineMove) → AreRowCuts cone moves row.now cut.now → IfOk result (λ counts. IsRowTaken (edges_of scene.now) cone moves row.now runs.old.items runs.new.items counts.drawing counts.left) }
+    ensures { (cone : Cone) (moves : List LineMove) → AreRowCuts cone moves row.now cut.now → IfOk result (λ counts. IsRowTaken (M.is_marked marks.now) cone moves row.now runs.old.items runs.new.items counts.drawing counts.left) }
 {
-    scene.row_inside(row.y, row.x, row.pitch, row.count, bits);
+    marks.mark_row(row.y, row.x, row.pitch, row.count, bits);
     let drawing = count_set(row, bits);
     clear_cut(cut, bits);
     let left = count_set(row, bits);

@@ -1,9 +1,10 @@
 // Reports on squares: with no move, with a move and with plunges, at several pitches.
 mod random;
 
+use crate::count::count_cut;
 use crate::cover::uncut;
 use crate::fault::CoverFault;
-use depth_rule::Scene;
+use depth_rule::{Bounds, Scene};
 use loops_text::Drawing;
 use plane_exact::{Bit, LineMove, Move, Point, Spot, Uncut};
 use std::alloc::Global;
@@ -133,6 +134,18 @@ fn points_are_multiples_of_the_pitch(rt: HostRuntime) -> Result<(), Fail> {
         )
     );
     assert_eq!(rt; (report.left, report.drawing), (8, 9));
+    Ok(())
+}
+
+#[test]
+fn the_points_of_a_box_are_counted(rt: HostRuntime) -> Result<(), Fail> {
+    let bounds = Bounds {
+        low: Point::new(-15, 0).ok_or("a corner")?,
+        high: Point::new(15, 29).ok_or("a corner")?,
+    };
+    let moves = [plunge(0, 0)?, plunge(10, 20)?, plunge(20, 0)?];
+    let count = count_cut(rt.alloc(), bounds, &cone()?, &moves, 10)?;
+    assert_eq!(rt; (count.cut, count.points), (2, 9));
     Ok(())
 }
 
