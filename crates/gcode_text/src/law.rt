@@ -1,4 +1,5 @@
-// What written programs are worth. A law is the contract of a function that does nothing.
+// What holds of every program, and of those that are written. A law is the contract of a function that does nothing.
+ghost use Rattle.gcode_text.specs.Following.{FewMovesLaw, FollowLaw};
 ghost use Rattle.gcode_text.specs.Path.{ReadBackLaw};
 ghost use Rattle.gcode_text.specs.Written.{WrittenLinesLaw};
 
@@ -10,4 +11,11 @@ pub fn written_lines_law()
 /// The program of a path within the limits is read as exactly the moves through the nodes of its chains.
 pub fn read_back_law()
     ensures { ReadBackLaw }
+{}
+
+/// The moves of a program follow each other, the first from a place at or above the surface, and there are no more than
+/// `MOST_MOVES` of them.
+pub fn follow_law()
+    ensures follow { FollowLaw }
+    ensures few { FewMovesLaw }
 {}
