@@ -16,4 +16,5 @@ pub mod Placing
 pub mod Readable
 pub mod Reported
 pub mod Stepped
+pub mod Visited
 pub mod Walks

@@ -10,6 +10,7 @@ pub mod Reading
 pub mod Report
 pub mod Runs
 pub mod Stepping
+pub mod Visits
 pub mod Walk
 pub mod Within
 pub mod Words

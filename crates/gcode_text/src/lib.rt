@@ -6,7 +6,7 @@
 //!
 //! And the other way: `write_code` writes the program of a job with a report on what it leaves uncut, its clause `text` says which
 //! text, and `read_back` that it is read as exactly the moves through the nodes of its chains. `chain_moves` gives these moves
-//! without the text.
+//! without the text. `write_visits` writes the program of a path that goes from spot to spot, and says the same of it.
 #![tactic(auto)]
 
 mod block;
@@ -24,6 +24,7 @@ mod state;
 mod stepper;
 #[cfg(test)]
 mod tests;
+mod visits;
 mod words;
 mod writer;
 mod written;
@@ -37,4 +38,5 @@ pub use reader::{Reader, read_code};
 pub use report::write_report;
 pub use state::{MOST_CODE_BYTES, Turn};
 pub use stepper::Stepper;
+pub use visits::write_visits;
 pub use writer::write_code;
