@@ -48,7 +48,7 @@ latest_known : (old : ℤ) (new : Option ℤ) → (v : ℤ) × (latest (Some old
 latest_known old None = (old, refl)
 latest_known old (Some new) = (new, refl)
 
-known_stays : (x y z new_x new_y new_z : Option ℤ) → is_some (spot_from x y z) ≡ true → is_some (spot_from (latest x new_x) (latest y new_y) (latest z new_z)) ≡ true
+pub known_stays : (x y z new_x new_y new_z : Option ℤ) → is_some (spot_from x y z) ≡ true → is_some (spot_from (latest x new_x) (latest y new_y) (latest z new_z)) ≡ true
 known_stays (Some x) (Some y) (Some z) new_x new_y new_z is =
     rw ((latest_known x new_x).1, (latest_known y new_y).1, (latest_known z new_z).1) refl
 known_stays None y z new_x new_y new_z is = absurd (cc)
@@ -66,7 +66,7 @@ IsPlaced-moved old block is =
 
 -- ---- moves
 -- the block of a line and its move, or the fault of either
-abbrev judged : ℕ → ℕ → Position → Result Block CodeKind → Result (Block × Option LineMove) CodeKind
+abbrev pub judged : ℕ → ℕ → Position → Result Block CodeKind → Result (Block × Option LineMove) CodeKind
 judged number count old block =
     and_then block (λ block. and_then (judge_move number count old block) (λ mv. Ok (block, mv)))
 
@@ -81,11 +81,11 @@ judged_placed number count old (Ok block) = by _ _ refl
     by false false is = IsPlaced-moved old block is
 
 -- the moves of the later lines, behind so many moves and at a place
-abbrev Later : Type 0
+abbrev pub Later : Type 0
 Later = ℕ → Position → Result (List LineMove) CodeFault
 
 -- the moves of a line that was judged, and then those of the later lines
-abbrev with_later : ℕ → ℕ → Position → Result (Block × Option LineMove) CodeKind → Later → Result (List LineMove) CodeFault
+abbrev pub with_later : ℕ → ℕ → Position → Result (Block × Option LineMove) CodeKind → Later → Result (List LineMove) CodeFault
 with_later number count old line later =
     and_then (in_line number line)
     (λ (block, mv).

@@ -45,18 +45,18 @@ pub record IsProgram (title : List ℕ) (job : Job) (lines : List WrittenLine) (
 abbrev pub raised : ℕ → Position
 raised safe = record { x = None; y = None; z = Some (pos 10 *ℤ pos safe) }
 
-units_read : (units : Units) → block_of_line units (Words (record { letter = 71; number = if is_inch_of units then codes "20" else codes "21" } ∷ [])) ≡ Ok empty_block
+pub units_read : (units : Units) → block_of_line units (Words (record { letter = 71; number = if is_inch_of units then codes "20" else codes "21" } ∷ [])) ≡ Ok empty_block
 units_read Mm10 = refl
 units_read Mm100 = refl
 units_read Mm1000 = refl
 units_read In100 = refl
 units_read In1000 = refl
 
-feed_read : (units : Units) (feed : ℕ) → feed ≤ 2 ^ 63 → block_of_line units (Words (record { letter = 70; number = decimal feed } ∷ [])) ≡ Ok (record empty_block { f = true })
+pub feed_read : (units : Units) (feed : ℕ) → feed ≤ 2 ^ 63 → block_of_line units (Words (record { letter = 70; number = decimal feed } ∷ [])) ≡ Ok (record empty_block { f = true })
 feed_read units feed fits =
     ap (λ number. and_then (and_then (or_kind kind.Number number) (judge_other units empty_block 70)) (λ next. judge_words units next [])) (decimal_number-decimal feed fits)
 
-not_below : (h : ℕ) → is_below (Some (pos 10 *ℤ pos h)) ≡ false
+pub not_below : (h : ℕ) → is_below (Some (pos 10 *ℤ pos h)) ≡ false
 not_below h = grind (arith, ints)
 
 raises : (safe : ℕ) → judge_move 5 0 nowhere (height_block (pos safe)) ≡ Ok None
@@ -81,7 +81,7 @@ opened title job lines is_job =
 -- ---- behind the lines
 
 -- notes and the end make no move, where the bit isn't below the surface at a place that isn't known
-closed : (units : Units) (number count : ℕ) (old : Position) (notes : List (List ℕ)) → (is_below old.z && not (is_some (spot_of old))) ≡ false → moves_of_lines units number count old (closing_lines notes) ≡ Ok []
+pub closed : (units : Units) (number count : ℕ) (old : Position) (notes : List (List ℕ)) → (is_below old.z && not (is_some (spot_of old))) ≡ false → moves_of_lines units number count old (closing_lines notes) ≡ Ok []
 closed units number count old [] calm = rw calm refl
 closed units number count old (note ∷ notes) calm =
     passes_still units (Note note) number count old empty_block (closing_lines notes) refl (rw calm refl) refl

@@ -4,6 +4,7 @@ pub mod Closing
 pub mod Codes
 pub mod Collects
 pub mod Cutting
+pub mod Follows
 pub mod Frames
 pub mod Growing
 pub mod Leading
@@ -16,4 +17,5 @@ pub mod Readable
 pub mod Reported
 pub mod Stepped
 pub mod StrokeNotes
+pub mod Visited
 pub mod Walks

@@ -1,5 +1,5 @@
 -- How written lengths are read, and the places to which lines of them lead the bit.
-use Rattle.std.specs.Prelude.{int_le, neg_ℤ}
+use Rattle.std.specs.Prelude.{int_le, neg_ℤ, unsigned_abs}
 use Rattle.std.proofs.Common.{◌≡◌, ℕ, ◌*◌, ◌≤◌, ◌^◌, Bool, true, false, Some, List, [], ◌∷◌, is_some, ℤ, pos, negsuc, ◌*ℤ◌, Result, Ok, sym, ap, ◌∙◌, refl, arith}
 use Rattle.std.proofs.lemmas.Int.{ints}
 use Rattle.grid_num.specs.Decimal.{PlainNumber, decimal_number, times_scale}
@@ -49,17 +49,21 @@ in_range-of low high z within =
     let under : int_le z high ≡ true = grind (arith, ints) in
     rw (over, under) refl
 
--- the word of a letter and a length in grid units is read as that length in tenths, where the letter's range allows it
+-- the word of a letter and a number is read as its tenths, where the letter's range allows them
+pub number_read : (units : Units) (places : ℕ) (v tenths low high : ℤ) (stood : Bool) (with_length : ℤ → Block) → places ≤ 6 → unsigned_abs v ≤ 2 ^ 63 → tenths_of units (number_of places v) ≡ Ok tenths → IsWithin low high tenths → stood ≡ false → and_then (or_kind kind.Number (decimal_number (decimal_text places v))) (λ number. once stood (and_then (and_then (tenths_of units number) (in_range low high)) (λ z. Ok (with_length z)))) ≡ Ok (with_length tenths)
+number_read units places v tenths low high stood with_length few small reads within first =
+    let rest : PlainNumber → Result Block CodeKind = λ number. once stood (and_then (and_then (tenths_of units number) (in_range low high)) (λ z. Ok (with_length z))) in
+    ap (λ found. and_then (or_kind kind.Number found) rest) (decimal_number-decimal_text places v few small)
+    ∙ ap (λ stands. once stands (and_then (and_then (tenths_of units (number_of places v)) (in_range low high)) (λ z. Ok (with_length z)))) first
+    ∙ ap (λ tenths. and_then (and_then tenths (in_range low high)) (λ z. Ok (with_length z))) reads
+    ∙ ap (λ z. and_then z (λ z. Ok (with_length z))) (in_range-of low high tenths within)
+
+-- so is that of a length in grid units
 length_read : (units : Units) (v low high : ℤ) (stood : Bool) (with_length : ℤ → Block) → IsCoordinate v → IsWithin low high (pos 10 *ℤ v) → stood ≡ false → and_then (or_kind kind.Number (decimal_number (decimal_text (zeros_of (per_unit_of units)) v))) (λ number. once stood (and_then (and_then (tenths_of units number) (in_range low high)) (λ z. Ok (with_length z)))) ≡ Ok (with_length (pos 10 *ℤ v))
 length_read units v low high stood with_length on within first =
     let from = on.low in
     let to = on.high in
-    let number = decimal_number-decimal_text (zeros_of (per_unit_of units)) v (omega (arith, zeros_of-le (per_unit_of units))) (omega (arith, ints)) in
-    let rest : PlainNumber → Result Block CodeKind = λ number. once stood (and_then (and_then (tenths_of units number) (in_range low high)) (λ z. Ok (with_length z))) in
-    ap (λ found. and_then (or_kind kind.Number found) rest) number
-    ∙ ap (λ stands. once stands (and_then (and_then (tenths_of units (number_in units v)) (in_range low high)) (λ z. Ok (with_length z)))) first
-    ∙ ap (λ tenths. and_then (and_then tenths (in_range low high)) (λ z. Ok (with_length z))) (tenths_read units v)
-    ∙ ap (λ z. and_then z (λ z. Ok (with_length z))) (in_range-of low high (pos 10 *ℤ v) within)
+    number_read units (zeros_of (per_unit_of units)) v (pos 10 *ℤ v) low high stood with_length (omega (arith, zeros_of-le (per_unit_of units))) (omega (arith, ints)) (tenths_read units v) within first
 
 -- a coordinate in tenths
 fine : (v : ℤ) → IsCoordinate v → IsWithin (negsuc 327679) (pos 327670) (pos 10 *ℤ v)
@@ -99,10 +103,10 @@ height_on h small = record { low = omega (arith, ints); high = omega (arith, int
 
 -- ---- the lines
 
-abbrev moving : Block
+abbrev pub moving : Block
 moving = record empty_block { motion = true }
 
-abbrev and_words : Units → List Word → Result Block CodeKind → Result Block CodeKind
+abbrev pub and_words : Units → List Word → Result Block CodeKind → Result Block CodeKind
 and_words units words read = and_then read (λ block. judge_words units block words)
 
 -- the blocks of lines, at G0 or G1

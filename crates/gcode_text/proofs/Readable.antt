@@ -71,7 +71,7 @@ number_digit : PassesDigits is_number_byte
 number_digit d small = grind (arith, nat_tests)
 
 -- a number that is stored
-whole_bytes : (n : ℕ) → n < 2 ^ 64 → AreBytes is_number_byte 20 (decimal n)
+pub whole_bytes : (n : ℕ) → n < 2 ^ 64 → AreBytes is_number_byte 20 (decimal n)
 whole_bytes n fits = record { each = (decimal_bytes number_digit n).each; short = length-decimal-le 20 n (omega arith) (omega arith) fits }
 
 fraction_bytes : (places n : ℕ) → places ≤ 6 → AreBytes is_number_byte 7 (fraction_text places n)
@@ -83,7 +83,7 @@ size_bytes : (places n : ℕ) → places ≤ 6 → n < 2 ^ 64 → AreBytes is_nu
 size_bytes places n few fits =
     joined (whole_bytes (n / 10 ^ places) (omega (arith, div-le_self n (10 ^ places)))) (fraction_bytes places n few)
 
-text_bytes : (places : ℕ) (v : ℤ) → places ≤ 6 → unsigned_abs v ≤ 2 ^ 63 → AreBytes is_number_byte 28 (decimal_text places v)
+pub text_bytes : (places : ℕ) (v : ℤ) → places ≤ 6 → unsigned_abs v ≤ 2 ^ 63 → AreBytes is_number_byte 28 (decimal_text places v)
 text_bytes places (pos n) few fits =
     let size = size_bytes places n few (omega arith) in
     let short = size.short in
@@ -93,7 +93,7 @@ text_bytes places (negsuc n) few fits =
     let short = size.short in
     record { each = size.each; short = omega arith }
 
-word_with : (letter : ℕ) (number : List ℕ) → 65 ≤ letter → letter ≤ 90 → AreBytes is_number_byte 28 number → IsWord (record { letter = letter; number = number })
+pub word_with : (letter : ℕ) (number : List ℕ) → 65 ≤ letter → letter ≤ 90 → AreBytes is_number_byte 28 number → IsWord (record { letter = letter; number = number })
 word_with letter number low high bytes =
     let short = bytes.short in
     record { low = low; high = high; number = bytes.each; short = omega arith }
@@ -109,13 +109,13 @@ length_written units letter v low high on =
 z_written : (units : Units) (h : ℤ) → IsUpTo (pos 32767) h → IsWord (length_word units 90 h)
 z_written units h on = length_written units 90 h (omega arith) (omega arith) (height_is_coordinate h on)
 
-motion_written : (motion : Motion) → IsWord (motion_word motion)
+pub motion_written : (motion : Motion) → IsWord (motion_word motion)
 motion_written Rapid = word_with 71 (codes "0") (omega arith) (omega arith) (record { each = refl; short = omega arith })
 motion_written Straight = word_with 71 (codes "1") (omega arith) (omega arith) (record { each = refl; short = omega arith })
 
 -- ---- lines
 
-words_written : (words : List Word) → AllByRecursion IsWord words → length words ≤ 20 → IsWritten (Words words)
+pub words_written : (words : List Word) → AllByRecursion IsWord words → length words ≤ 20 → IsWritten (Words words)
 words_written words each few = (All-from_recursion IsWord words each, few)
 
 pub height_written : (units : Units) (motion : Motion) (h : ℤ) → IsUpTo (pos 32767) h → IsWritten (height_line units (motion_word motion) h)
@@ -133,10 +133,10 @@ node_written units node on =
     words_written (motion_word Straight ∷ length_word units 88 node.at.x ∷ length_word units 89 node.at.y ∷ length_word units 90 h ∷ [])
     (motion_written Straight, (length_written units 88 node.at.x (omega arith) (omega arith) on.at.across, (length_written units 89 node.at.y (omega arith) (omega arith) on.at.up, (z_written units h (depth_on node.depth on.depth), tt)))) (omega arith)
 
-word_line : (letter : ℕ) (number : List ℕ) → 65 ≤ letter → letter ≤ 90 → AreBytes is_number_byte 28 number → IsWritten (Words (record { letter = letter; number = number } ∷ []))
+pub word_line : (letter : ℕ) (number : List ℕ) → 65 ≤ letter → letter ≤ 90 → AreBytes is_number_byte 28 number → IsWritten (Words (record { letter = letter; number = number } ∷ []))
 word_line letter number low high bytes = words_written (record { letter = letter; number = number } ∷ []) (word_with letter number low high bytes, tt) (omega arith)
 
-units_bytes : (is_inch : Bool) → AreBytes is_number_byte 28 (if is_inch then codes "20" else codes "21")
+pub units_bytes : (is_inch : Bool) → AreBytes is_number_byte 28 (if is_inch then codes "20" else codes "21")
 units_bytes true = record { each = refl; short = omega arith }
 units_bytes false = record { each = refl; short = omega arith }
 

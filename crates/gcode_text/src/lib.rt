@@ -6,7 +6,8 @@
 //!
 //! And the other way: `write_code` writes the program of a job with a report on what it leaves uncut, its clause `text` says which
 //! text, and `read_back` that it is read as exactly the moves through the nodes of its chains. `chain_moves` gives these moves
-//! without the text. `write_strokes` writes the program of strokes that are engraved, which is read back likewise.
+//! without the text. `write_strokes` writes the program of strokes that are engraved, and `write_visits` that of a path that goes from
+//! spot to spot; both are read back likewise.
 #![tactic(auto)]
 
 mod block;
@@ -25,6 +26,7 @@ mod stepper;
 mod strokes;
 #[cfg(test)]
 mod tests;
+mod visits;
 mod words;
 mod writer;
 mod written;
@@ -39,4 +41,5 @@ pub use report::write_report;
 pub use state::{MOST_CODE_BYTES, Turn};
 pub use stepper::Stepper;
 pub use strokes::write_strokes;
+pub use visits::write_visits;
 pub use writer::write_code;

@@ -1,8 +1,10 @@
 // A program that comes in pieces, however it is cut.
 ghost use Rattle.std.specs.Prelude.{◌≡◌, ◌+◌, ◌++◌, ◌≤◌, ◌<◌, ◌∷◌, List, ℕ, IfErr, IfOk, IsErr, OnErr, OnOk, Ok, Err, [], false, true, length};
+ghost use Rattle.gcode_text.specs.Following.{AreFollowing};
 ghost use Rattle.gcode_text.specs.Moves.{moves_of};
 ghost use Rattle.gcode_text.specs.Reading.{HasFault, StandsFor};
 ghost use Rattle.gcode_text.specs.Collecting.{Continues, collected_moves};
+ghost use Rattle.gcode_text.specs.declared.modal.TheConstants.{MOST_MOVES};
 
 use crate::fault::FinishFault;
 use crate::state::{MOST_CODE_BYTES, Turn};
@@ -17,6 +19,9 @@ pub fn read_code(alloc: Global, units: Units, code: &[u8]) -> Result<Vec<LineMov
     requires { length code.now ≤ MOST_CODE_BYTES }
     ensures moves { IfOk result (λ moves. moves_of units code.now ≡ Ok moves.items) }
     ensures fault { IfErr result (λ fault. HasFault fault (moves_of units code.now)) }
+    // Each move begins where the one before ended, and the first at or above the surface.
+    ensures follow { IfOk result (λ moves. AreFollowing moves.items) }
+    ensures few { IfOk result (λ moves. length moves.items ≤ MOST_MOVES) }
 {
     let mut reader = Reader::new(alloc, units);
     reader.feed(code)?;

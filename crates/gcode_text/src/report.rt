@@ -64,7 +64,8 @@ fn write_number(name: &str, number: i32, out: &mut Vec<u8>) -> Result<(), AllocE
     write_decimal(i64::from(number), 1, out)
 }
 
-fn write_count(name: &str, count: u64, out: &mut Vec<u8>) -> Result<(), AllocError>
+/// Appends the name and the count.
+pub fn write_count(name: &str, count: u64, out: &mut Vec<u8>) -> Result<(), AllocError>
     ensures text { OnOk result (out.new.items ≡ out.old.items ++ (name.now ++ decimal count)) }
     ensures range { count < 2 ^ 64 }
 {

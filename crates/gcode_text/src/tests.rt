@@ -1,5 +1,6 @@
 // The reader against docs/GCODE.md: letters, G and M numbers, and whole programs, each read whole and however it is cut. The
 // expected answers are written by hand from what stands there.
+mod visits;
 mod written;
 
 use crate::fault::FinishFault;

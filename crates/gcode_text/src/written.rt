@@ -67,7 +67,8 @@ pub fn write_end(code: &mut Vec<u8>) -> Result<(), AllocError>
     code.extend_from_slice(b"M2\n")
 }
 
-fn motion_text(motion: Motion) -> &'static str
+/// The motion's word.
+pub fn motion_text(motion: Motion) -> &'static str
     ensures { result.now ≡ word_text (motion_word motion) }
 {
     match motion {

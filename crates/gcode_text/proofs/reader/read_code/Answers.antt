@@ -4,6 +4,7 @@ use Rattle.std.proofs.lemmas.Result.{IfOk-weaker}
 use Rattle.gcode_text.specs.Moves.{moves_of}
 use Rattle.gcode_text.specs.Reading.{HasFault}
 use Rattle.gcode_text.proofs.Collects.{IfErr-weaker}
+use Rattle.gcode_text.proofs.Follows.{few_moves, follows}
 use Rattle.gcode_text.proofs.reader.read_code.Goals as goal
 
 pub returns-clause-moves : goal.returns-clause-moves
@@ -19,3 +20,9 @@ returns-clause-fault c =
     let stands = c.in_ok-feed.ensures.grown [] c.new-reader.ensures.nothing in
     let same = ap (λ units. moves_of units code) (c.feed.ensures.units ∙ c.new-reader.ensures.units) in
     IfErr-weaker c.finish.result _ _ (λ fault here. subst (HasFault fault) same (here code stands)) c.finish.ensures.fault
+
+pub returns-clause-follow : goal.returns-clause-follow
+returns-clause-follow c = IfOk-weaker c.finish.result _ _ (λ moves is. follows c.args.units c.args.code.now moves.items is) (returns-clause-moves c)
+
+pub returns-clause-few : goal.returns-clause-few
+returns-clause-few c = IfOk-weaker c.finish.result _ _ (λ moves is. few_moves c.args.units c.args.code.now moves.items is) (returns-clause-moves c)

@@ -1,0 +1,7 @@
+-- Answers the goal of `write_visit`.
+use Rattle.std.proofs.Common.{rules, append_assoc}
+use Rattle.std.proofs.lemmas.Result.{IfOk-equal}
+use Rattle.gcode_text.proofs.visits.write_visit.Goals as goal
+
+pub returns-clause-text : goal.returns-clause-text
+returns-clause-text c = search (rules, IfOk-equal, append_assoc)
