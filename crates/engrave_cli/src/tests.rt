@@ -16,6 +16,7 @@ mod moves;
 mod pockets;
 mod probe;
 mod refusals;
+mod repair;
 mod segments;
 mod trial;
 

@@ -6,6 +6,7 @@ pub mod CoveredCode
 pub mod Done
 pub mod Guarding
 pub mod JudgedCode
+pub mod RepairedCode
 pub mod Reported
 pub mod ReportedCheck
 pub mod Safety

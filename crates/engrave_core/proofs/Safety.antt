@@ -7,7 +7,7 @@ use Rattle.plane_exact.specs.Cone.{Cone}
 use Rattle.shop_port.specs.Output.{Appended}
 use Rattle.engrave_core.specs.Commands.Carve.{job_of, pocket_of}
 use Rattle.engrave_core.specs.Commands.Check.{IsDueOfCheck, IsTrueOfCheck}
-use Rattle.engrave_core.specs.Due.{IsDueOf, IsGoodText, IsSafeRun, IsTrueReport, IsTrueRun}
+use Rattle.engrave_core.specs.Due.{IsDueOf, IsGoodRepairRun, IsGoodText, IsSafeRun, IsTrueReport, IsTrueRun}
 use Rattle.engrave_core.specs.Given.{cone_of}
 use Rattle.engrave_core.specs.Outcome.{IfAnswered}
 use Rattle.engrave_core.specs.Stored.{Files}
@@ -17,6 +17,7 @@ use Rattle.engrave_core.specs.declared.outcome.Outcome.TheVariants.{Absent, Done
 use Rattle.engrave_core.proofs.CarvedCode.{carved_is_good}
 use Rattle.engrave_core.proofs.CheckedCode.{checked_is_safe, checked_is_true}
 use Rattle.engrave_core.proofs.CoveredCode.{covered_is_told}
+use Rattle.engrave_core.proofs.RepairedCode.{repaired_is_good}
 
 -- an answer to a check says what is true of the stored program, and one that answers nothing says nothing
 answered_is_true : (files : Files) (shape : DrawingWords) (code : List ℕ) (bit : Cone) (outcome : Outcome) (text : List ℕ)
@@ -52,6 +53,10 @@ module _ (files : Files) (asked : Option Request) (text : List ℕ) (outcome res
   pub true_report : IsDueOf files asked Done text → IsTrueReport files asked text
   true_report due shape code bit rmax pitch is =
       covered_is_told files shape code (cone_of bit rmax) pitch text (subst (λ a. IsDueOf files a Done text) is due)
+
+  pub good_repair : IsDueOf files asked Done text → IsGoodRepairRun files asked text
+  good_repair due shape code bit rmax safe feed is =
+      repaired_is_good files shape code (cone_of bit rmax) safe feed text (subst (λ a. IsDueOf files a Done text) is due)
 
   pub written_is_so : (IsSo : List ℕ → Type 0) (old new : Option (List ℕ)) → (IsDueOf files asked Done text → IsSo text)
       → (result ≡ outcome) ⊎ (result ≡ WriteFault) → IfAnswered outcome (IsDueOf files asked outcome text)

@@ -9,6 +9,7 @@ use Rattle.engrave_core.specs.Commands.Cover.{IsDueOfCover, IsRefusalOfCover}
 use Rattle.engrave_core.specs.Commands.Flatten.{IsDueOfFlatten, IsRefusalOfFlatten}
 use Rattle.engrave_core.specs.Commands.Moves.{IsDueOfMoves, IsRefusalOfMoves}
 use Rattle.engrave_core.specs.Commands.Probe.{IsDueOfProbe, IsRefusalOfProbe}
+use Rattle.engrave_core.specs.Commands.Repair.{IsDueOfRepair, IsRefusalOfRepair}
 use Rattle.engrave_core.specs.Commands.Trial.{IsDueOfTrial, IsRefusalOfTrial}
 use Rattle.engrave_core.specs.Given.{cone_of}
 use Rattle.engrave_core.specs.Stored.{Files}
@@ -20,6 +21,7 @@ pub mod Cover
 pub mod Flatten
 pub mod Moves
 pub mod Probe
+pub mod Repair
 pub mod Trial
 
 -- the outcome and the text that are due
@@ -33,6 +35,7 @@ IsDueOfRequest files (request.Carve shape bit rmax step limit safe feed pitch li
 IsDueOfRequest files (request.Cover shape code bit rmax pitch) = IsDueOfCover files shape code (cone_of bit rmax) pitch
 IsDueOfRequest files (request.Flatten shape) = IsDueOfFlatten files shape
 IsDueOfRequest files (request.Trial count) = IsDueOfTrial count
+IsDueOfRequest files (request.Repair shape code bit rmax safe feed) = IsDueOfRepair files shape code (cone_of bit rmax) safe feed
 
 -- the refusals that there are, whatever the files have
 abbrev pub IsRefusalOfRequest : Request → Outcome → Type 0
@@ -44,3 +47,4 @@ IsRefusalOfRequest (request.Carve shape bit rmax step limit safe feed pitch line
 IsRefusalOfRequest (request.Cover shape code bit rmax pitch) = IsRefusalOfCover shape
 IsRefusalOfRequest (request.Flatten shape) = IsRefusalOfFlatten shape
 IsRefusalOfRequest (request.Trial count) = IsRefusalOfTrial
+IsRefusalOfRequest (request.Repair shape code bit rmax safe feed) = IsRefusalOfRepair shape

@@ -9,6 +9,7 @@ use Rattle.engrave_core.specs.Commands.{IsDueOfRequest, IsRefusalOfRequest}
 use Rattle.engrave_core.specs.Commands.Carve.{StoresWellCarved, job_of}
 use Rattle.engrave_core.specs.Commands.Check.{IsTrueOfCheck, StoresSafeCode}
 use Rattle.engrave_core.specs.Commands.Cover.{StoresCovered}
+use Rattle.engrave_core.specs.Commands.Repair.{StoresRepaired}
 use Rattle.engrave_core.specs.Given.{Refuses, cone_of}
 use Rattle.engrave_core.specs.Stored.{Files}
 use Rattle.engrave_core.specs.declared.outcome.Outcome.{Outcome}
@@ -71,3 +72,9 @@ abbrev pub IsTrueReport : Files → Option Request → List ℕ → Type 0
 IsTrueReport files asked text =
     (shape : DrawingWords) (code : List ℕ) (bit : ℕ × ℕ) (rmax pitch : ℕ)
     → asked ≡ Some (request.Cover shape code bit rmax pitch) → StoresCovered files shape code (cone_of bit rmax) pitch text
+
+-- what is known of the text that is written with Done where the request is to repair: it is a good repair of the stored program
+abbrev pub IsGoodRepairRun : Files → Option Request → List ℕ → Type 0
+IsGoodRepairRun files asked text =
+    (shape : DrawingWords) (code : List ℕ) (bit : ℕ × ℕ) (rmax safe feed : ℕ)
+    → asked ≡ Some (request.Repair shape code bit rmax safe feed) → StoresRepaired files shape code (cone_of bit rmax) safe feed text

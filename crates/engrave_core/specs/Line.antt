@@ -9,7 +9,7 @@ use Rattle.dxf_outline.specs.declared.fault.DxfFault.{DxfFault}
 use Rattle.engrave_core.specs.declared.outcome.InputFault.{InputFault}
 use Rattle.engrave_core.specs.declared.outcome.InputFault.TheVariants.{TooLong, Loops, Cxf, Dxf, Pbm, Lay, Pixels, Open, Cross, StepTooFine, TooMany, Code}
 use Rattle.engrave_core.specs.declared.outcome.Kind.{Kind}
-use Rattle.engrave_core.specs.declared.outcome.Kind.TheVariants.{Contacts, Nodes, Chains, Points}
+use Rattle.engrave_core.specs.declared.outcome.Kind.TheVariants.{Contacts, Nodes, Chains, Points, Moves}
 use Rattle.engrave_core.specs.declared.outcome.Outcome.{Outcome}
 use Rattle.engrave_core.specs.declared.outcome.Outcome.TheVariants.{Done, NotClear, Usage, Input, Absent, ReadFault, WriteFault, Memory}
 use Rattle.engrave_core.specs.declared.outcome.Which.{Which}
@@ -58,6 +58,7 @@ kind_words Contacts = codes "contacts"
 kind_words Nodes = codes "nodes"
 kind_words Chains = codes "chains"
 kind_words Points = codes "points"
+kind_words Moves = codes "moves"
 
 -- the line of a fault of the input
 abbrev pub input_line : InputFault → List ℕ

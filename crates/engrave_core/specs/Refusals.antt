@@ -36,10 +36,12 @@ use Rattle.carve_plan.specs.declared.fault.PlanFault.{PlanFault}
 use Rattle.carve_plan.specs.declared.fault.PlanFault.TheVariants as plan
 use Rattle.coverage_report.specs.declared.fault.CoverFault.{CoverFault}
 use Rattle.coverage_report.specs.declared.fault.CoverFault.TheVariants as cover
+use Rattle.code_repair.specs.declared.fault.RepairFault.{RepairFault}
+use Rattle.code_repair.specs.declared.fault.RepairFault.TheVariants as repair
 use Rattle.tangent_disc.specs.declared.contact.ContactFault.{ContactFault}
 use Rattle.tangent_disc.specs.declared.contact.ContactFault.TheVariants as contact
 use Rattle.engrave_core.specs.declared.outcome.InputFault.TheVariants.{TooLong, Loops, Cxf, Dxf, Pbm, Lay, Pixels, Open, Cross, StepTooFine, TooMany, Code as CodeOf}
-use Rattle.engrave_core.specs.declared.outcome.Kind.TheVariants.{Contacts, Nodes, Chains, Points}
+use Rattle.engrave_core.specs.declared.outcome.Kind.TheVariants.{Contacts, Nodes, Chains, Points, Moves}
 use Rattle.engrave_core.specs.declared.outcome.Outcome.{Outcome}
 use Rattle.engrave_core.specs.declared.outcome.Outcome.TheVariants.{Input, Absent, ReadFault, Memory}
 use Rattle.engrave_core.specs.declared.outcome.Which.{Which}
@@ -133,6 +135,11 @@ abbrev pub cover_refusal : CoverFault → Refusal
 cover_refusal cover.TooManyPoints = refusal.Input (TooMany Points)
 cover_refusal cover.Memory = refusal.Memory
 
+-- the refusal of a repair
+abbrev pub repair_refusal : RepairFault → Refusal
+repair_refusal repair.TooMany = refusal.Input (TooMany Moves)
+repair_refusal repair.Memory = refusal.Memory
+
 -- ---- which refusals there are
 
 -- the refusals of a file
@@ -223,3 +230,9 @@ abbrev pub IsRefusalOfReport : Outcome → Type 0
 IsRefusalOfReport (Input (TooMany Points)) = Unit {0}
 IsRefusalOfReport Memory = Unit {0}
 IsRefusalOfReport outcome = ⊥
+
+-- the refusals of a repair
+abbrev pub IsRefusalOfVisits : Outcome → Type 0
+IsRefusalOfVisits (Input (TooMany Moves)) = Unit {0}
+IsRefusalOfVisits Memory = Unit {0}
+IsRefusalOfVisits outcome = ⊥

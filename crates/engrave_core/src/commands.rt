@@ -15,6 +15,7 @@ mod cover;
 mod flatten;
 mod moves;
 mod probe;
+mod repair;
 mod trial;
 
 use crate::refusal::Refusal;
@@ -98,6 +99,22 @@ fn run<D: Depot>(alloc: Global, request: &Request, depot: &mut D) -> Result<Vec<
         } => cover::run(alloc, shape, code, &bit_of(*bit, *rmax), *pitch, depot),
         Request::Flatten { shape } => flatten::run(alloc, shape, depot),
         Request::Trial { count } => trial::run(alloc, *count),
+        Request::Repair {
+            shape,
+            code,
+            bit,
+            rmax,
+            safe,
+            feed,
+        } => repair::run(
+            alloc,
+            shape,
+            code,
+            &bit_of(*bit, *rmax),
+            *safe,
+            *feed,
+            depot,
+        ),
     }
 }
 

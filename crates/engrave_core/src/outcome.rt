@@ -80,6 +80,8 @@ pub enum Kind {
     Chains,
     /// Points of the report on what stays uncut, cut and uncut: more than 16,777,216.
     Points,
+    /// Moves of a repaired program: more than 8,388,608.
+    Moves,
 }
 
 impl Kind {
@@ -94,6 +96,7 @@ impl Kind {
             Kind::Nodes => "nodes",
             Kind::Chains => "chains",
             Kind::Points => "points",
+            Kind::Moves => "moves",
         }
     }
 }

@@ -4,6 +4,7 @@ ghost use Rattle.std.specs.Prelude.{◌≡◌};
 use crate::outcome::{InputFault, Kind, Outcome, Which};
 use crate::stream::StreamFault;
 use carve_plan::PlanFault;
+use code_repair::RepairFault;
 use coverage_report::CoverFault;
 use cxf_font::{CxfFault, CxfKind, LayFault};
 use dxf_outline::{DxfFault, DxfKind};
@@ -230,6 +231,19 @@ impl From<CoverFault> for Refusal {
         match fault {
             CoverFault::TooManyPoints => Refusal::Input(InputFault::TooMany(Kind::Points)),
             CoverFault::Memory => Refusal::Memory,
+        }
+    }
+}
+
+impl From<RepairFault> for Refusal {
+    ghost use Rattle.engrave_core.specs.Refusals.{repair_refusal};
+
+    ghost from_gives = { λ fault refusal. refusal ≡ repair_refusal fault };
+
+    fn from(fault: RepairFault) -> Refusal {
+        match fault {
+            RepairFault::TooMany => Refusal::Input(InputFault::TooMany(Kind::Moves)),
+            RepairFault::Memory => Refusal::Memory,
         }
     }
 }

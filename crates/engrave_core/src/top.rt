@@ -3,7 +3,7 @@ ghost use Rattle.std.specs.Prelude.{◌≡◌, ◌⊎◌, map, string_bytes, IfS
 ghost use Rattle.job_words.specs.Request.{request_of};
 ghost use Rattle.shop_port.specs.Counts.{Rose};
 ghost use Rattle.shop_port.specs.Output.{Appended, AppendedPart};
-ghost use Rattle.engrave_core.specs.Due.{AsksForNoFile, IsAnswer, IsDue, IsGoodText, IsSafeRun, IsTrueReport, IsTrueRun};
+ghost use Rattle.engrave_core.specs.Due.{AsksForNoFile, IsAnswer, IsDue, IsGoodText, IsGoodRepairRun, IsSafeRun, IsTrueReport, IsTrueRun};
 ghost use Rattle.engrave_core.specs.Stored.{IsCaused};
 ghost use Rattle.engrave_core.specs.Line.{line_of};
 ghost use Rattle.engrave_core.specs.Outcome.{IfAnswered, IfRefused, HasText};
@@ -47,6 +47,12 @@ pub fn engrave<D: Depot, S: Sink>(
     // And so are the points that are printed as uncut by a G-code program of anybody's.
     ensures covered { IfSome (D.held depot.old) (λ files. result ≡ Outcome.Done →
         Writes (IsTrueReport files (request_of (map string_bytes words.now))) (S.written out.old) (S.written out.new)) }
+
+    // A G-code program that is repaired is called clear for its drawing and bit, removes no point, at any moment of any move, that the
+    // stored one doesn't remove, and has the clear moves of that in their order; none is changed exactly where the stored one is called
+    // clear.
+    ensures repaired { IfSome (D.held depot.old) (λ files. result ≡ Outcome.Done →
+        Writes (IsGoodRepairRun files (request_of (map string_bytes words.now))) (S.written out.old) (S.written out.new)) }
 
     // The verdict is exact: a program that is called clear is fit, and one that isn't isn't; where it is called a gouge or
     // outside, a moment of a move of the named line removes a point that isn't inside, for a gouge a point of the named edge.
