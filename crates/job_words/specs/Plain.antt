@@ -71,7 +71,6 @@ is_in_form given =
     else if bytes_eq given.name (codes "pitch") then is_some (number_of 1 32767 given.value)
     else if bytes_eq given.name (codes "pocket") then is_some (pocket_named given.value)
     else if bytes_eq given.name (codes "over") then is_some (number_of 1 8191 given.value)
-    else if bytes_eq given.name (codes "radius") then is_some (number_of 1 8191 given.value)
     else if bytes_eq given.name (codes "depth") then is_some (number_of 1 32767 given.value)
     else if bytes_eq given.name (codes "count") then is_some (number_of 1 80 given.value)
     else if bytes_eq given.name (codes "form") then is_some (form_named given.value)

@@ -13,8 +13,6 @@ use Rattle.job_words.specs.declared.request.JustifyWord.{JustifyWord}
 use Rattle.job_words.specs.declared.request.JustifyWord.TheVariants.{Left, Center, Right}
 use Rattle.job_words.specs.declared.request.PocketWord.{PocketWord}
 use Rattle.job_words.specs.declared.request.PocketWord.TheVariants.{NoPocket, X, Y, Both}
-use Rattle.job_words.specs.declared.request.WayWord.{WayWord}
-use Rattle.job_words.specs.declared.request.WayWord.TheVariants as way
 use Rattle.job_words.specs.declared.request.YesNo.{YesNo}
 use Rattle.job_words.specs.declared.request.YesNo.TheVariants.{Yes, No}
 
@@ -79,14 +77,6 @@ pocket_named text =
     else if bytes_eq text (codes "both") then Some Both
     else None
 
--- by which lines a floor is milled
-abbrev pub way_named : List ℕ → Option WayWord
-way_named text =
-    if bytes_eq text (codes "x") then Some way.X
-    else if bytes_eq text (codes "y") then Some way.Y
-    else if bytes_eq text (codes "both") then Some way.Both
-    else None
-
 -- a text of 1 to 200 characters
 abbrev pub letters_of : List ℕ → Option (List ℕ)
 letters_of text = let count = length (chars text) in if nat_le 1 count && nat_le count 200 then Some text else None
@@ -144,17 +134,9 @@ pitch_of = or_default 10 (number_of 1 32767)
 abbrev pub pocket_of : Option (List ℕ) → Option PocketWord
 pocket_of = or_default NoPocket pocket_named
 
--- `--pocket` of a flat bit, rows where it isn't given
-abbrev pub way_of : Option (List ℕ) → Option WayWord
-way_of = or_default way.X way_named
-
 -- `--over`, from 1 to 8191, and 50 where it isn't given
 abbrev pub over_of : Option (List ℕ) → Option ℕ
 over_of = or_default 50 (number_of 1 8191)
-
--- `--radius`, from 1 to 8191
-abbrev pub radius_of : Option (List ℕ) → Option ℕ
-radius_of = option_and_then (number_of 1 8191)
 
 -- `--depth`, from 1 to 32,767
 abbrev pub depth_of : Option (List ℕ) → Option ℕ

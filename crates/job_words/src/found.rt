@@ -2,13 +2,13 @@
 ghost use Rattle.std.specs.Prelude.{◌≡◌, ◌≤◌, IfOk, IfSome, Some, None, Err, codes};
 ghost use Rattle.clap.specs.Words.{first_value, found_of};
 ghost use Rattle.plane_exact.specs.Cone.{IsFromOneTo};
-ghost use Rattle.job_words.specs.Values.{at_of, bit_of, count_of, rmax_of, step_of, limit_of, safe_of, feed_of, over_of, pitch_of, pocket_of, radius_of, depth_of, way_of, number_of, or_default, units_of};
+ghost use Rattle.job_words.specs.Values.{at_of, bit_of, count_of, rmax_of, step_of, limit_of, safe_of, feed_of, over_of, pitch_of, pocket_of, depth_of, number_of, or_default, units_of};
 
 use crate::fault::WordsFault;
 use crate::options::CommandOption;
-use crate::request::{PocketWord, WayWord};
+use crate::request::PocketWord;
 use crate::text::Text;
-use crate::values::{read_number, read_pocket, read_point, read_slope, read_units, read_way};
+use crate::values::{read_number, read_pocket, read_point, read_slope, read_units};
 use clap::ArgMatches;
 use grid_num::Units;
 use plane_exact::Point;
@@ -62,11 +62,6 @@ pub const POCKET: CommandOption = CommandOption {
 pub const OVER: CommandOption = CommandOption {
     name: "over",
     required: false,
-};
-
-pub const RADIUS: CommandOption = CommandOption {
-    name: "radius",
-    required: true,
 };
 
 pub const DEPTH: CommandOption = CommandOption {
@@ -158,29 +153,12 @@ pub fn pocket_in(found: &ArgMatches) -> Option<PocketWord>
     }
 }
 
-/// Rows where the option isn't given.
-pub fn way_in(found: &ArgMatches) -> Option<WayWord>
-    ensures { result ≡ way_of (first_value (found_of found.now) (codes "pocket")) }
-{
-    match found.get_str("pocket") {
-        Some(text) => read_way(text),
-        None => Some(WayWord::X),
-    }
-}
-
 /// 50 where the option isn't given.
 pub fn over_in(found: &ArgMatches) -> Option<u32>
     ensures value { result ≡ over_of (first_value (found_of found.now) (codes "over")) }
     ensures range { IfSome result (IsFromOneTo 8191) }
 {
     number_in(found, "over", 50, 1, 8191)
-}
-
-pub fn radius_in(found: &ArgMatches) -> Option<u32>
-    ensures value { result ≡ radius_of (first_value (found_of found.now) (codes "radius")) }
-    ensures range { IfSome result (IsFromOneTo 8191) }
-{
-    read_number(found.get_str("radius")?, 1, 8191)
 }
 
 pub fn depth_in(found: &ArgMatches) -> Option<u32>

@@ -18,8 +18,6 @@ mod values;
 mod words;
 
 pub use fault::WordsFault;
-pub use request::{
-    CrossWord, DrawingWords, FormWord, JustifyWord, PocketWord, Request, WayWord, YesNo,
-};
+pub use request::{CrossWord, DrawingWords, FormWord, JustifyWord, PocketWord, Request, YesNo};
 pub use text::Text;
 pub use words::read_words;

@@ -50,17 +50,6 @@ pub enum PocketWord {
     Both,
 }
 
-/// By which lines a floor is milled.
-#[derive(Clone, Copy, Debug, PartialEq, Eq)]
-pub enum WayWord {
-    /// By rows along x.
-    X,
-    /// By columns along y.
-    Y,
-    /// By rows along x, and by columns along y.
-    Both,
-}
-
 /// Yes or no.
 #[derive(Clone, Copy, Debug, PartialEq, Eq)]
 pub enum YesNo {
@@ -177,28 +166,6 @@ pub enum Request {
     /// The drawing in loops form.
     Flatten {
         shape: DrawingWords,
-    },
-    /// The G-code program of a flat bit that mills the floors that the depth limit leaves.
-    Flat {
-        shape: DrawingWords,
-        /// As in `Probe`: the bit that carves the walls.
-        bit: (u32, u32),
-        /// As in `Probe`.
-        rmax: u32,
-        /// The radius of the flat bit, in grid units, from 1 to 8191.
-        radius: u32,
-        /// As in `Probe`.
-        limit: u32,
-        /// As in `Carve`.
-        safe: u32,
-        /// As in `Carve`.
-        feed: u32,
-        /// As in `Carve`.
-        pitch: u32,
-        /// Which way the floors are milled.
-        way: WayWord,
-        /// As in `Carve`.
-        over: u32,
     },
     /// The G-code program that follows open lines at one depth. The form of the drawing is `Dxf` or `Cxf`.
     Strokes {

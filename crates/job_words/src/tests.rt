@@ -4,7 +4,6 @@ mod carve;
 mod check;
 mod contacts;
 mod cover;
-mod flat;
 mod flatten;
 mod moves;
 mod probe;
@@ -128,24 +127,6 @@ fn text_of_request(alloc: Global, request: &Request) -> Result<String, AllocErro
             let lettering = lettering_text(alloc, shape)?;
             format!(in alloc; "{text} {chord} {snap} {pixel} {lettering}")
         }
-        Request::Flat {
-            shape,
-            bit,
-            rmax,
-            radius,
-            limit,
-            safe,
-            feed,
-            pitch,
-            way,
-            over,
-        } => {
-            let shape = shape_text(alloc, shape)?;
-            let (sn, sd) = *bit;
-            format!(in alloc;
-                "{shape} {sn}/{sd} {rmax} {radius} {limit} {safe} {feed} {pitch} {way:?} {over}"
-            )
-        }
         Request::Strokes {
             shape,
             bit,
@@ -183,7 +164,6 @@ fn lines_ask_for_their_values(rt: HostRuntime) -> Result<(), Fail> {
         check::LINES.as_slice(),
         contacts::LINES.as_slice(),
         cover::LINES.as_slice(),
-        flat::LINES.as_slice(),
         flatten::LINES.as_slice(),
         moves::LINES.as_slice(),
         probe::LINES.as_slice(),

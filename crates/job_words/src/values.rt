@@ -2,9 +2,9 @@
 ghost use Rattle.std.specs.Prelude.{◌≡◌, ◌≤◌, IfNone, IfSome, None, Some, length};
 ghost use Rattle.std.specs.Str.{chars};
 ghost use Rattle.plane_exact.specs.Cone.{IsFromOneTo};
-ghost use Rattle.job_words.specs.Values.{point_of, slope_of, within, number_of, cross_named, form_named, justify_named, letters_of, pocket_named, units_named, way_named, yes_named};
+ghost use Rattle.job_words.specs.Values.{point_of, slope_of, within, number_of, cross_named, form_named, justify_named, letters_of, pocket_named, units_named, yes_named};
 
-use crate::request::{CrossWord, FormWord, JustifyWord, PocketWord, WayWord, YesNo};
+use crate::request::{CrossWord, FormWord, JustifyWord, PocketWord, YesNo};
 use grid_num::{Units, read_whole, read_whole_pair};
 use plane_exact::Point;
 
@@ -136,21 +136,6 @@ pub fn read_pocket(text: &str) -> Option<PocketWord>
         Some(PocketWord::Y)
     } else if text == "both" {
         Some(PocketWord::Both)
-    } else {
-        None
-    }
-}
-
-/// `x`, `y` or `both`.
-pub fn read_way(text: &str) -> Option<WayWord>
-    ensures { result ≡ way_named text.now }
-{
-    if text == "x" {
-        Some(WayWord::X)
-    } else if text == "y" {
-        Some(WayWord::Y)
-    } else if text == "both" {
-        Some(WayWord::Both)
     } else {
         None
     }
