@@ -1,7 +1,7 @@
 -- The program of a path of visits: how its lines grow, and that it is read back as exactly the moves through the visits.
 use Rattle.std.specs.Prelude.{codes, decimal, if◌then◌else◌, unsigned_abs}
-use Rattle.std.proofs.Common.{◌≡◌, ℕ, ◌+◌, ◌*◌, ◌^◌, ◌<◌, ◌≤◌, Bool, true, false, ◌&&◌, cond, Some, None, List, [], ◌∷◌, ◌++◌, length, get_or, drop, is_some, ℤ, pos, negsuc, ◌*ℤ◌, Ok, Err, sym, ap, ◌∙◌, refl, arith, append_assoc}
-use Rattle.std.specs.List.{All, AllByRecursion}
+use Rattle.std.proofs.Common.{◌≡◌, ℕ, ◌+◌, ◌*◌, ◌^◌, ◌<◌, ◌≤◌, true, false, ◌&&◌, cond, Some, None, List, [], ◌∷◌, ◌++◌, length, get_or, drop, is_some, ℤ, pos, negsuc, ◌*ℤ◌, Ok, Err, sym, ap, ◌∙◌, refl, arith, append_assoc}
+use Rattle.std.specs.List.{All}
 use Rattle.std.proofs.Math.Bool.{and-false}
 use Rattle.std.proofs.lemmas.Int.{ints}
 use Rattle.std.proofs.lemmas.List.{append-nil, drop_all, drop_more}
@@ -15,7 +15,7 @@ use Rattle.grid_num.proofs.Texts.{number_of, times_scale-number_of, zeros_of-le}
 use Rattle.plane_exact.specs.Heights.{GridPlace, IsFineCoordinate, IsHeight}
 use Rattle.plane_exact.specs.Plane.{GridPoint}
 use Rattle.gcode_text.specs.Grammar.{empty_block, judge_word, or_kind, tenths_of}
-use Rattle.gcode_text.specs.Moves.{is_below, judge_move, moves_of, nowhere}
+use Rattle.gcode_text.specs.Moves.{is_below, judge_move, nowhere}
 use Rattle.gcode_text.specs.Path.{end_line, motion_word}
 use Rattle.gcode_text.specs.Visits.{IsVisit, VisitsReadBackLaw, opening_lines, over_line, repair_note, rise_line, spot_line, spot_over, tenths_word, visit_line, visit_lines, visit_moves, visiting_lines, visits_lines, visits_text}
 use Rattle.gcode_text.specs.Written.{Note, WrittenLine, Words, IsNote, IsWord, IsWritten, block_of_line, code_text, is_note_byte, moves_of_lines}

@@ -1,6 +1,6 @@
 -- The program of a path of visits: spots, in tenths of a grid unit, to which the bit goes one after the other; its lines, and
 -- the moves that they make.
-use Rattle.std.specs.Prelude.{◌≡◌, ℕ, ◌+◌, ◌*◌, ◌≤◌, ◌&&◌, ◌||◌, not, List, [], ◌∷◌, ◌++◌, length, All, if◌then◌else◌, ℤ, pos, int_lt, codes, decimal, Ok}
+use Rattle.std.specs.Prelude.{◌≡◌, ℕ, ◌*◌, ◌≤◌, ◌&&◌, ◌||◌, not, List, [], ◌∷◌, ◌++◌, length, All, if◌then◌else◌, ℤ, pos, int_lt, codes, decimal, Ok}
 use Rattle.grid_num.specs.Units.{is_inch_of, per_unit_of}
 use Rattle.grid_num.specs.Written.{decimal_text, zeros_of}
 use Rattle.grid_num.specs.declared.units.Units.{Units}

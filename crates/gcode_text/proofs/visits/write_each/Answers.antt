@@ -1,10 +1,8 @@
 -- Answers the goals of `write_each`.
-use Rattle.std.proofs.Common.{◌++◌, ◌∷◌, [], All, ap, refl, rules, subst, sym, ◌∙◌}
+use Rattle.std.proofs.Common.{All, refl, subst}
 use Rattle.std.proofs.lemmas.List.{get_or_read, take_all}
 use Rattle.std.proofs.lemmas.List.Elements.{All-more, All-nil}
-use Rattle.plane_exact.specs.Heights.{GridPlace}
-use Rattle.gcode_text.specs.Visits.{IsVisit, visit_line, visit_lines}
-use Rattle.gcode_text.specs.Written.{code_text}
+use Rattle.gcode_text.specs.Visits.{IsVisit}
 use Rattle.gcode_text.proofs.Visited.{visit_more, visits_done}
 use Rattle.gcode_text.proofs.visits.write_each.Goals as goal
 

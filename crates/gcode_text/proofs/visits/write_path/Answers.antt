@@ -1,5 +1,4 @@
 -- Answers the goals of `write_path`.
-use Rattle.std.proofs.Common.{ap, ◌∙◌}
 use Rattle.std.proofs.lemmas.Result.{IfOk-weaker}
 use Rattle.gcode_text.proofs.Visited.{path_written}
 use Rattle.gcode_text.proofs.visits.write_path.Goals as goal
