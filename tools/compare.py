@@ -49,7 +49,8 @@ FORMED, ANEW, CROSSED, TRIALS = 5, 30, 20, (1, 2)
 
 SPARED, WITHIN = "clear: edges of which no sampled point is removed", "clear: removed points that are inside"
 CARVED_MOVES, CARVED_CLEAR = "carve: the moves of the program", "carve: the program is called clear"
-COMPARED = ["crossing", "taken", "inside", "depth", "contacts", "discs", "moves", "check", "cover", SPARED, WITHIN, "carve", CARVED_MOVES, CARVED_CLEAR]
+REPAIRED_CLEAR = "repair: the program is called clear"
+COMPARED = ["crossing", "taken", "inside", "depth", "contacts", "discs", "moves", "check", "cover", "repair", REPAIRED_CLEAR, SPARED, WITHIN, "carve", CARVED_MOVES, CARVED_CLEAR]
 AGAIN, ALIKE = "flatten: what was written, again", "the same answer for a file and what it is flattened to"
 COMPARED += [f"flatten: {form}" for form in form_cases.MAKERS] + [AGAIN, ALIKE, "trial"]
 
@@ -229,6 +230,21 @@ class Comparison:
         self.agree("cover", (0, due), self.run(*words), *words)
         self.spread_of_report("cover", report)
 
+    def compare_repaired(self, bit, given, units, moves):
+        """What is written is due, and called clear, with a move from each place to the next."""
+        safe, feed = self.rng.choice([1, 200, self.rng.randint(1, 32767)]), self.rng.randint(1, 10000)
+        visits, changed = definitions.repaired(self.edges, bit, safe, moves)
+        due = "".join(line + "\n" for line in definitions.repair_lines(units, safe, feed, visits, changed, len(moves)))
+        words = ["repair", *given, f"--safe={safe}", f"--feed={feed}"]
+        got = self.run(*words)
+        self.agree("repair", (0, due), got, *words)
+        changes = "no" if changed == 0 else "all" if changed == len(moves) else "some"
+        self.spread["repair: " + (f"{changes} moves changed" if moves else "no moves")] += 1
+        if got[0] == 0:
+            path = self.write("repaired.ngc", got[1])
+            words = ["check", *(f"--code={path}" if word.startswith("--code=") else word for word in given)]
+            self.agree(REPAIRED_CLEAR, (0, f"clear {len(visits)} moves\n"), self.run(*words), *words)
+
     def spread_of_report(self, command, report):
         what = "no point" if report.drawing == 0 else "nothing" if report.left == 0 else "all" if report.left == report.drawing else "some"
         self.spread[f"{command}: {what} left"] += 1
@@ -255,6 +271,7 @@ class Comparison:
             given = [*self.geometry(bit), f"--code={path}", f"--units={units}"]
             if number % PER_COVERED == 0:
                 self.compare_covered(bit, given, code.moves)
+                self.compare_repaired(bit, given, units, code.moves)
             words = ["check", *given]
             found = definitions.verdict(self.edges, bit, code.moves)
             got = self.run(*words)
@@ -291,7 +308,7 @@ class Comparison:
         """Each command refuses a drawing that crosses itself, before it looks for the G-code program; by the even-odd rule it is taken."""
         bit, asked = ["--bit=1/1", "--rmax=100"], self.rng.choice([[], [], ["--cross=refuse"]])
         commands = {"flatten": [], "probe": [*bit, "--at=0,0"], "contacts": ["--step=7", "--rmax=9"], "carve": [*bit, "--step=7"]}
-        for name, options in {**commands, "check": [*bit, "--code=none"], "cover": [*bit, "--code=none"]}.items():
+        for name, options in {**commands, "check": [*bit, "--code=none"], "cover": [*bit, "--code=none"], "repair": [*bit, "--code=none"]}.items():
             words = [name, f"--drawing={self.drawing}", *asked, *options]
             self.agree("crossing", (3, "input cross %d,%d\n" % self.crossing), self.run(*words), *words)
         words = ["flatten", f"--drawing={self.drawing}", *self.cross]

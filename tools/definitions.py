@@ -643,3 +643,54 @@ def code_moves(job, chains):
 
 def code_text(job, chains, report):
     return "".join(line + "\n" for line in code_lines(job, chains, report))
+
+
+def over(place, safe):
+    """The safe height, which is given in grid units, over the place."""
+    return Spot(place.x, place.y, 10 * safe)
+
+
+def can_land(edges, bit, safe, place):
+    return place.h >= 0 or fault_of(edges, bit, Move(0, over(place, safe), place)) is None
+
+
+def repaired(edges, bit, safe, moves):
+    """The places that the bit visits when moves that aren't clear become lifts, and how many of them are changed."""
+    if not moves:
+        return [], 0
+    visits, changed, is_up = [moves[0].start], 0, False
+    for mv in moves:
+        if fault_of(edges, bit, mv) is None:
+            visits.append(mv.end)
+            is_up = False
+            continue
+        changed += 1
+        if not is_up:
+            visits.append(over(mv.start, safe))
+        visits.append(over(mv.end, safe))
+        is_up = not can_land(edges, bit, safe, mv.end)
+        if not is_up:
+            visits.append(mv.end)
+    return [*visits, over(moves[-1].end, safe)], changed
+
+
+def tenths_text(units, length):
+    """A length in tenths of a grid unit, with a decimal more than its unit has zeros."""
+    whole, part = divmod(abs(length), 10 ** (ZEROS[units] + 1))
+    return f"{'-' if length < 0 else ''}{whole}.{part:0{ZEROS[units] + 1}}"
+
+
+def visit_line(units, before, visit):
+    """To the visit: at the feed where that is below the surface, or the bit leaves a place below it sideways."""
+    is_cut = visit.h < 0 or (before.h < 0 and (before.x, before.y) != (visit.x, visit.y))
+    return f"G{int(is_cut)} X{tenths_text(units, visit.x)} Y{tenths_text(units, visit.y)} Z{tenths_text(units, visit.h)}"
+
+
+def repair_lines(units, safe, feed, visits, changed, moves):
+    """The lines of the repaired program."""
+    lines = [f"(repaired {changed} of {moves})", UNIT_WORDS[units], "G90", f"F{feed}", f"G0 Z{tenths_text(units, 10 * safe)}"]
+    if visits:
+        first = over(visits[0], safe)
+        lines.append(f"G0 X{tenths_text(units, first.x)} Y{tenths_text(units, first.y)}")
+        lines += [visit_line(units, *pair) for pair in zip([first, *visits], visits)]
+    return [*lines, "M2"]
