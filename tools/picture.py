@@ -4,8 +4,10 @@
     python3 tools/picture.py --drawing=oak.loops --code=oak.ngc --bit=571/989 --rmax=150 --pitch=50 --out=oak.svg
     python3 tools/picture.py --drawing=squares.loops --edges=1,4 --out=squares.svg
 
+    python3 tools/picture.py --code=scale.ngc --bit=571/989 --rmax=150 --out=scale.svg
+
 The second marks edges by their numbers, as a line `input cross 1,4` names them: such a drawing is drawn too, by the even-odd rule. Without
-`--code` the drawing is all.
+`--code` the drawing is all. The third draws a program alone, as one that engraves open lines.
 
 The options are those of `engrave_cli cover`, which is run for the points, as `moves` is for the path and `flatten` for the drawing; those
 that say what a drawing is, as `--form=cxf --text=OAK`, are handed on. The drawing is grey, what a move below the surface removes of it
@@ -173,11 +175,13 @@ def draw_edges(canvas, loops, numbers):
 
 def draw_program(canvas, options, drawing, moves, asked):
     """What the moves remove, their ways, and what they leave."""
-    bit = [f"--bit={options.bit}", f"--rmax={options.rmax}"]
-    runs, counts = read_runs(asked("cover", *drawing, *bit, f"--code={options.code}", f"--pitch={options.pitch}"))
     sn, sd = map(int, options.bit.split("/"))
     canvas.together("cut", lambda: draw_cuts(canvas, moves, sn / sd))
     draw_ways(canvas, moves)
+    if not options.drawing:
+        return
+    bit = [f"--bit={options.bit}", f"--rmax={options.rmax}"]
+    runs, counts = read_runs(asked("cover", *drawing, *bit, f"--code={options.code}", f"--pitch={options.pitch}"))
     canvas.together("left", lambda: draw_left(canvas, runs, options.pitch))
     canvas.note(f"{counts}, {options.pitch} grid units apart")
 
@@ -186,7 +190,7 @@ def picture(options, shape, asked):
     drawing = [f"--drawing={options.drawing}", f"--units={options.units}", *shape]
     # A drawing of which edges are marked may cross itself.
     taken = [] if options.edges is None or any(word.startswith("--cross") for word in shape) else ["--cross=evenodd"]
-    loops = read_loops(asked("flatten", *drawing, *taken))
+    loops = read_loops(asked("flatten", *drawing, *taken)) if options.drawing else []
     moves = read_moves(asked("moves", f"--code={options.code}", f"--units={options.units}")) if options.code else []
     canvas = Canvas([p for loop in loops for p in loop] + [end[:2] for mv in moves for end in mv] or [(0, 0)])
     if loops:
@@ -209,7 +213,7 @@ def write_png(svg):
 
 def main():
     parser = argparse.ArgumentParser(description=__doc__.splitlines()[0])
-    parser.add_argument("--drawing", type=Path, required=True)
+    parser.add_argument("--drawing", type=Path, help="left out, the program is drawn alone")
     parser.add_argument("--code", type=Path, help="the G-code program; then with --bit and --rmax")
     parser.add_argument("--bit", help="SN/SD")
     parser.add_argument("--rmax", type=int)
@@ -222,6 +226,8 @@ def main():
     options, shape = parser.parse_known_args()
     if options.code and not (options.bit and options.rmax):
         parser.error("--code goes with --bit and --rmax")
+    if not options.code and not options.drawing:
+        parser.error("there is neither --drawing nor --code")
 
     def asked(*words):
         """What the program writes; where it refuses, its line is the end."""

@@ -30,8 +30,8 @@ use Rattle.carve_plan.proofs.Visiting.{first_there, later_there, rounds_visited}
 
 -- ---- the chains in their order
 
--- a plan has the chains in another order
-same_chains : (chains : List (List GridNode)) (order : List ℕ) → IsOrder chains order → IsPermutation chains (map (chain_at chains) order)
+-- chains put in an order are the same ones
+pub same_chains : (chains : List (List GridNode)) (order : List ℕ) → IsOrder chains order → IsPermutation chains (map (chain_at chains) order)
 same_chains chains order ordered =
     let all = fill_by_all (chain_at chains) chains (length chains) [] refl (λ k below. refl) in
     subst (λ cs. IsPermutation cs (map (chain_at chains) order)) (sym all) (IsPermutation-map (chain_at chains) (range_with_len 0 (length chains)) order ordered.once)
@@ -71,16 +71,19 @@ rounds_joined (round ∷ rounds) stops are =
     ∙ ap (λ nodes. round ++ nodes) (rounds_joined rounds are.later are.others)
 
 -- in another order there are as many chains and nodes
+pub same_within : (chains ordered : List (List GridNode)) → IsPermutation chains ordered → AreWithinLimits chains → AreWithinLimits ordered
+same_within chains ordered same within =
+    let nodes = length-flat_map (λ (part : List GridNode). part) in
+    record {
+      chains_le = subst (λ n. n ≤ MOST_CHAINS) (sym (length_permutation chains ordered same)) within.chains_le;
+      nodes_le = subst (λ n. n ≤ MOST_NODES) (sym (nodes ordered ∙ sum_by-IsPermutation (λ chain. length chain) chains ordered same ∙ sym (nodes chains))) within.nodes_le;
+    }
+
 pub plan_within : (loops : List (List GridPoint)) (cone : Cone) (limit step : ℕ) (asked : AskedPocket) (plan : List (List GridNode))
     → IsPlan loops cone limit step asked plan → AreWithinLimits plan
 plan_within loops cone limit step asked plan is =
     let chains = is.chains ++ is.pocket in
-    let same = subst (IsPermutation chains) (sym is.are) (same_chains chains is.order is.ordered) in
-    let nodes = length-flat_map (λ (part : List GridNode). part) in
-    record {
-      chains_le = subst (λ n. n ≤ MOST_CHAINS) (sym (length_permutation chains plan same)) is.within.chains_le;
-      nodes_le = subst (λ n. n ≤ MOST_NODES) (sym (nodes plan ∙ sum_by-IsPermutation (λ chain. length chain) chains plan same ∙ sym (nodes chains))) is.within.nodes_le;
-    }
+    same_within chains plan (subst (IsPermutation chains) (sym is.are) (same_chains chains is.order is.ordered)) is.within
 
 module _ (loops : List (List GridPoint)) (cone : Cone) (limit : ℕ) where
   stops_deepest : (contacts : List Contact) (stops : List Stop) → AllZip (IsStop loops cone limit) contacts stops → All (IsDeepest (edges_of loops) cone limit) (nodes_of stops)

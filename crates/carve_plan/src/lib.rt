@@ -16,6 +16,7 @@ mod stop;
 #[cfg(test)]
 mod tests;
 
+pub use chains::in_order;
 pub use fault::PlanFault;
 pub use limits::count_nodes;
 pub use plans::plan;

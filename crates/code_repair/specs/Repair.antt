@@ -47,6 +47,7 @@ pub record IsHovering (edges : List Seg) (cone : Cone) (safe : ℕ) (up : Bool) 
   pub stays_up : behind ≡ true
   pub one : changed ≡ 1
 
+-- the first of these that applies
 abbrev pub IsStep : List Seg → Cone → (safe : ℕ) → (up : Bool) → Move → List GridPlace → (behind : Bool) → (changed : ℕ) → Type 0
 IsStep edges cone safe up mv visits behind changed =
     IsStaying edges cone mv visits behind changed

@@ -18,6 +18,7 @@ mod probe;
 mod refusals;
 mod repair;
 mod segments;
+mod strokes;
 mod trial;
 
 use engrave_core::{engrave, status};

@@ -37,7 +37,7 @@ use Rattle.shop_port.specs.declared.loading.LoadFault.TheVariants as load
 use Rattle.engrave_core.specs.Given.{IsGivenBy}
 use Rattle.engrave_core.specs.Line.{line_of}
 use Rattle.engrave_core.specs.Outcome.{IfAnswered, outcome_of}
-use Rattle.engrave_core.specs.Drawing.{IsDrawingOf, IsGivenByDrawing, IsGuardedResult, ReadDrawing, drawing_of, joined, layout_of, read_as, stored_drawing}
+use Rattle.engrave_core.specs.Drawing.{IsDrawingOf, IsGivenByDrawing, IsGuardedResult, ReadDrawing, cxf_segments, drawing_of, dxf_segments, joined, layout_of, read_as, stored_drawing}
 use Rattle.engrave_core.specs.Refusals.{file_refusal, flat_refusal, join_refusal, lay_refusal, pbm_refusal}
 use Rattle.engrave_core.specs.Stored.{Files, bytes_of, code_of, or_refused, stored_code}
 use Rattle.engrave_core.specs.declared.outcome.InputFault.TheVariants.{Loops, Cxf, Dxf, Code as CodeOf}
@@ -139,15 +139,16 @@ read_gives_none form.Loops shape text =
     (or_refused_gives_none (λ fault. Input (Loops fault)) (λ fault verdict is. cc) (loops_of text)) (λ loops. tt)
 read_gives_none form.Dxf shape text =
     let drawn = dxf_of (per_unit_of shape.units) shape.chord text in
-    then_gives_none (or_refused (λ fault. Input (Dxf fault)) drawn) _
-    (or_refused_gives_none (λ fault. Input (Dxf fault)) (λ fault verdict is. cc) drawn)
-    (λ drawn. joined_gives_none (Some drawn.skipped) (snap_of shape.snap drawn.segs))
+    then_gives_none (dxf_segments shape text) (λ read. joined read.skipped read.segments)
+    (then_gives_none (or_refused (λ fault. Input (Dxf fault)) drawn) _ (or_refused_gives_none (λ fault. Input (Dxf fault)) (λ fault verdict is. cc) drawn) (λ drawn. tt))
+    (λ read. joined_gives_none read.skipped read.segments)
 read_gives_none form.Cxf shape text =
-    then_gives_none (or_refused (λ fault. Input (Cxf fault)) (font_of text)) _
+    then_gives_none (cxf_segments shape text) (λ read. joined read.skipped read.segments)
+    (then_gives_none (or_refused (λ fault. Input (Cxf fault)) (font_of text)) _
     (or_refused_gives_none (λ fault. Input (Cxf fault)) (λ fault verdict is. cc) (font_of text))
     (λ font. let laid = lay_of font (unwrap_or shape.text []) (layout_of shape) shape.chord in
-    then_gives_none (or_refused lay_refusal laid) _ (or_refused_gives_none lay_refusal lay_gives_none laid)
-    (λ segs. joined_gives_none None (snap_of shape.snap segs)))
+    then_gives_none (or_refused lay_refusal laid) _ (or_refused_gives_none lay_refusal lay_gives_none laid) (λ segs. tt)))
+    (λ read. joined_gives_none read.skipped read.segments)
 read_gives_none form.Pbm shape text =
     then_gives_none (or_refused pbm_refusal (pbm_of text)) _ (or_refused_gives_none pbm_refusal pbm_gives_none (pbm_of text))
     (λ map. then_gives_none (or_refused flat_refusal (edges_of_pixels map shape.pixel)) (joined None)

@@ -11,6 +11,7 @@ pub mod Reported
 pub mod ReportedCheck
 pub mod Safety
 pub mod StreamedCode
+pub mod StrokePrograms
 pub mod Texts
 pub mod TriedField
 pub mod Untouched

@@ -10,6 +10,7 @@ use Rattle.engrave_core.specs.Commands.Flatten.{IsDueOfFlatten, IsRefusalOfFlatt
 use Rattle.engrave_core.specs.Commands.Moves.{IsDueOfMoves, IsRefusalOfMoves}
 use Rattle.engrave_core.specs.Commands.Probe.{IsDueOfProbe, IsRefusalOfProbe}
 use Rattle.engrave_core.specs.Commands.Repair.{IsDueOfRepair, IsRefusalOfRepair}
+use Rattle.engrave_core.specs.Commands.Strokes.{IsDueOfStrokes, IsRefusalOfStrokes, stroke_job}
 use Rattle.engrave_core.specs.Commands.Trial.{IsDueOfTrial, IsRefusalOfTrial}
 use Rattle.engrave_core.specs.Given.{cone_of}
 use Rattle.engrave_core.specs.Stored.{Files}
@@ -22,6 +23,7 @@ pub mod Flatten
 pub mod Moves
 pub mod Probe
 pub mod Repair
+pub mod Strokes
 pub mod Trial
 
 -- the outcome and the text that are due
@@ -34,6 +36,8 @@ IsDueOfRequest files (request.Carve shape bit rmax step limit safe feed pitch li
     IsDueOfCarve files shape (job_of shape.units (cone_of bit rmax) step limit safe feed) pitch (pocket_of lines over)
 IsDueOfRequest files (request.Cover shape code bit rmax pitch) = IsDueOfCover files shape code (cone_of bit rmax) pitch
 IsDueOfRequest files (request.Flatten shape) = IsDueOfFlatten files shape
+IsDueOfRequest files (request.Strokes shape bit rmax depth safe feed pitch) =
+    IsDueOfStrokes files shape (stroke_job shape.units (cone_of bit rmax) depth safe feed) depth pitch
 IsDueOfRequest files (request.Trial count) = IsDueOfTrial count
 IsDueOfRequest files (request.Repair shape code bit rmax safe feed) = IsDueOfRepair files shape code (cone_of bit rmax) safe feed
 
@@ -46,5 +50,6 @@ IsRefusalOfRequest (request.Contacts shape step rmax) = IsRefusalOfTouching shap
 IsRefusalOfRequest (request.Carve shape bit rmax step limit safe feed pitch lines over) = IsRefusalOfCarve shape
 IsRefusalOfRequest (request.Cover shape code bit rmax pitch) = IsRefusalOfCover shape
 IsRefusalOfRequest (request.Flatten shape) = IsRefusalOfFlatten shape
+IsRefusalOfRequest (request.Strokes shape bit rmax depth safe feed pitch) = IsRefusalOfStrokes shape
 IsRefusalOfRequest (request.Trial count) = IsRefusalOfTrial
 IsRefusalOfRequest (request.Repair shape code bit rmax safe feed) = IsRefusalOfRepair shape

@@ -35,7 +35,7 @@ use Rattle.engrave_core.specs.declared.outcome.InputFault.TheVariants.{Loops, Cx
 use Rattle.engrave_core.specs.declared.outcome.Outcome.{Outcome}
 use Rattle.engrave_core.specs.declared.outcome.Which.TheVariants.{Drawing}
 use Rattle.engrave_core.specs.declared.refusal.Refusal.{Refusal}
-use Rattle.engrave_core.specs.declared.refusal.Refusal.TheVariants.{Input}
+use Rattle.engrave_core.specs.declared.refusal.Refusal.TheVariants.{Input, Usage}
 
 -- the loops of a drawing, and how many entities of its file were skipped, where its form skips any
 pub record ReadDrawing : Type 0 where
@@ -53,6 +53,11 @@ abbrev pub is_yes : YesNo → Bool
 is_yes yes.Yes = true
 is_yes yes.No = false
 
+-- the loose segments of a drawing, and how many entities of its file were skipped, where its form skips any
+pub record ReadSegments : Type 0 where
+  pub segments : List Seg
+  pub skipped : Option ℕ
+
 -- the loops that loose segments are joined into, or the refusal
 abbrev pub joined : Option ℕ → List Seg → Result ReadDrawing Refusal
 joined skipped segs = and_then (or_refused join_refusal (join_of segs)) (λ loops. Ok (record { loops = loops; skipped = skipped }))
@@ -61,11 +66,15 @@ joined skipped segs = and_then (or_refused join_refusal (join_of segs)) (λ loop
 abbrev pub loops_read : List ℕ → Result ReadDrawing Refusal
 loops_read text = and_then (or_refused (λ fault. Input (Loops fault)) (loops_of text)) (λ loops. Ok (record { loops = loops; skipped = None }))
 
--- that of a DXF file: points that are close become one, and the segments are joined
-abbrev pub dxf_read : DrawingWords → List ℕ → Result ReadDrawing Refusal
-dxf_read shape text =
+-- the segments of a DXF file: points that are close become one
+abbrev pub dxf_segments : DrawingWords → List ℕ → Result ReadSegments Refusal
+dxf_segments shape text =
     and_then (or_refused (λ fault. Input (Dxf fault)) (dxf_of (per_unit_of shape.units) shape.chord text))
-    (λ drawn. joined (Some drawn.skipped) (snap_of shape.snap drawn.segs))
+    (λ drawn. Ok (record { segments = snap_of shape.snap drawn.segs; skipped = Some drawn.skipped }))
+
+-- its drawing: the segments are joined
+abbrev pub dxf_read : DrawingWords → List ℕ → Result ReadDrawing Refusal
+dxf_read shape text = and_then (dxf_segments shape text) (λ read. joined read.skipped read.segments)
 
 -- how the words lay out their text
 abbrev pub layout_of : DrawingWords → Layout
@@ -80,12 +89,16 @@ layout_of shape = record {
   flip = is_yes shape.flip;
 }
 
--- that of a font's letters: they are laid out, points that are close become one, and the segments are joined
-abbrev pub cxf_read : DrawingWords → List ℕ → Result ReadDrawing Refusal
-cxf_read shape text =
+-- the segments of a font's letters: they are laid out, and points that are close become one
+abbrev pub cxf_segments : DrawingWords → List ℕ → Result ReadSegments Refusal
+cxf_segments shape text =
     and_then (or_refused (λ fault. Input (Cxf fault)) (font_of text))
     (λ font. and_then (or_refused lay_refusal (lay_of font (unwrap_or shape.text []) (layout_of shape) shape.chord))
-    (λ segs. joined None (snap_of shape.snap segs)))
+    (λ segs. Ok (record { segments = snap_of shape.snap segs; skipped = None })))
+
+-- their drawing: the segments are joined
+abbrev pub cxf_read : DrawingWords → List ℕ → Result ReadDrawing Refusal
+cxf_read shape text = and_then (cxf_segments shape text) (λ read. joined read.skipped read.segments)
 
 -- that of a bitmap: the boundary of its black pixels, which is on the grid and isn't snapped
 abbrev pub pbm_read : DrawingWords → List ℕ → Result ReadDrawing Refusal
@@ -107,6 +120,21 @@ drawing_of shape text = read_as shape.form shape text
 -- what the stored file gives that the words name
 unfoldable pub stored_drawing : Files → DrawingWords → Result ReadDrawing Refusal
 stored_drawing files shape = and_then (bytes_of Drawing MOST_DRAWING_BYTES (files shape.drawing)) (drawing_of shape)
+
+-- the segments of a file of the form that the words say, which is one that may have open lines
+abbrev pub segments_as : FormWord → DrawingWords → List ℕ → Result ReadSegments Refusal
+segments_as form.Dxf shape text = dxf_segments shape text
+segments_as form.Cxf shape text = cxf_segments shape text
+segments_as other shape text = Err Usage
+
+-- the same, or the refusal
+unfoldable pub segments_of : DrawingWords → List ℕ → Result ReadSegments Refusal
+segments_of shape text = segments_as shape.form shape text
+
+-- the strokes that the stored file gives that the words name
+unfoldable pub stored_strokes : Files → DrawingWords → Result (List Seg) Refusal
+stored_strokes files shape =
+    and_then (bytes_of Drawing MOST_DRAWING_BYTES (files shape.drawing)) (λ text. and_then (segments_of shape text) (λ read. Ok read.segments))
 
 -- the refusal names the first two edges that cross
 pub record IsCrossed (drawing : ReadDrawing) (refusal : Refusal) : Type 0 where

@@ -10,6 +10,7 @@ use Rattle.engrave_core.specs.Commands.Carve.{StoresWellCarved, job_of}
 use Rattle.engrave_core.specs.Commands.Check.{IsTrueOfCheck, StoresSafeCode}
 use Rattle.engrave_core.specs.Commands.Cover.{StoresCovered}
 use Rattle.engrave_core.specs.Commands.Repair.{StoresRepaired}
+use Rattle.engrave_core.specs.Commands.Strokes.{StoresEngraved, stroke_job}
 use Rattle.engrave_core.specs.Given.{Refuses, cone_of}
 use Rattle.engrave_core.specs.Stored.{Files}
 use Rattle.engrave_core.specs.declared.outcome.Outcome.{Outcome}
@@ -66,6 +67,13 @@ IsGoodText files asked text =
     (shape : DrawingWords) (bit : ℕ × ℕ) (rmax step limit safe feed pitch : ℕ) (lines : PocketWord) (over : ℕ)
     → asked ≡ Some (request.Carve shape bit rmax step limit safe feed pitch lines over)
     → StoresWellCarved files shape (job_of shape.units (cone_of bit rmax) step limit safe feed) pitch text
+
+-- what is known of the text that is written with Done where the request is to engrave strokes
+abbrev pub IsTrueEngraving : Files → Option Request → List ℕ → Type 0
+IsTrueEngraving files asked text =
+    (shape : DrawingWords) (bit : ℕ × ℕ) (rmax depth safe feed pitch : ℕ)
+    → asked ≡ Some (request.Strokes shape bit rmax depth safe feed pitch)
+    → StoresEngraved files shape (stroke_job shape.units (cone_of bit rmax) depth safe feed) depth pitch text
 
 -- what is known of the text that is written with Done where the request is to cover: it is the report on the stored program
 abbrev pub IsTrueReport : Files → Option Request → List ℕ → Type 0

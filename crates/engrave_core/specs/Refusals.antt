@@ -189,6 +189,16 @@ IsRefusalOfForm form.Dxf outcome = IsRefusalOfDxf outcome ⊎ IsRefusalOfSegment
 IsRefusalOfForm form.Cxf outcome = IsRefusalOfCxf outcome ⊎ IsRefusalOfSegments outcome
 IsRefusalOfForm form.Pbm outcome = IsRefusalOfPbm outcome ⊎ IsRefusalOfSegments outcome
 
+-- the refusals of the file of open lines, by its form
+abbrev pub IsRefusalOfOpenForm : FormWord → Outcome → Type 0
+IsRefusalOfOpenForm form.Dxf outcome = IsRefusalOfDxf outcome
+IsRefusalOfOpenForm form.Cxf outcome = IsRefusalOfCxf outcome
+IsRefusalOfOpenForm form outcome = ⊥
+
+-- the refusals of strokes: of their file, and of what it says by its form
+abbrev pub IsRefusalOfStroked : FormWord → Outcome → Type 0
+IsRefusalOfStroked form outcome = IsRefusalOfFile Drawing outcome ⊎ IsRefusalOfOpenForm form outcome
+
 -- the refusals of a drawing whose edges may cross
 abbrev pub IsRefusalOfEdges : CrossWord → Outcome → Type 0
 IsRefusalOfEdges cross.Refuse (Input (Cross i j)) = i < j

@@ -16,6 +16,7 @@ mod flatten;
 mod moves;
 mod probe;
 mod repair;
+mod strokes;
 mod trial;
 
 use crate::refusal::Refusal;
@@ -98,6 +99,25 @@ fn run<D: Depot>(alloc: Global, request: &Request, depot: &mut D) -> Result<Vec<
             pitch,
         } => cover::run(alloc, shape, code, &bit_of(*bit, *rmax), *pitch, depot),
         Request::Flatten { shape } => flatten::run(alloc, shape, depot),
+        Request::Strokes {
+            shape,
+            bit,
+            rmax,
+            depth,
+            safe,
+            feed,
+            pitch,
+        } => {
+            let job = Job {
+                units: shape.units,
+                safe: *safe,
+                feed: *feed,
+                bit: bit_of(*bit, *rmax),
+                limit: *depth,
+                step: 1,
+            };
+            strokes::run(alloc, shape, &job, *depth, *pitch, depot)
+        }
         Request::Trial { count } => trial::run(alloc, *count),
         Request::Repair {
             shape,

@@ -1,15 +1,16 @@
 // The drawing that a command's words name: loaded, read by its form, joined where it comes in loose segments, and refused where its
 // edges cross, unless the words take it by the even-odd rule.
-ghost use Rattle.std.specs.Prelude.{◌≡◌, ◌≢◌, ◌≤◌, ◌⊎◌, [], length, All, IfErr, MatchResult, unwrap_or};
+ghost use Rattle.std.specs.Prelude.{◌≡◌, ◌≢◌, ◌≤◌, ◌⊎◌, [], length, All, IfErr, IfOk, MatchResult, true, unwrap_or};
 ghost use Rattle.std.specs.Str.{chars};
 ghost use Rattle.cxf_font.specs.Layouts.{IsLayout};
 ghost use Rattle.engrave_model.specs.Drawing.{edges_of};
 ghost use Rattle.engrave_model.specs.declared.TheConstants.{MOST_EDGES};
+ghost use Rattle.job_words.specs.Commands.Strokes.{has_strokes};
 ghost use Rattle.job_words.specs.Shape.{IsShapeInRange};
-ghost use Rattle.engrave_core.specs.Drawing.{IsDrawingOf, IsGuarded, IsReadWhere, IsRefusedCrossing, ReadDrawing, cxf_read, drawing_of, dxf_read, is_yes, joined, justify_of, layout_of, loops_read, pbm_read, stored_drawing};
-ghost use Rattle.engrave_core.specs.Loaded.{drawing_in, drawing_read};
+ghost use Rattle.engrave_core.specs.Drawing.{IsDrawingOf, IsGuarded, IsReadWhere, IsRefusedCrossing, ReadDrawing, cxf_read, cxf_segments, drawing_of, dxf_read, dxf_segments, is_yes, joined, justify_of, layout_of, loops_read, pbm_read, segments_of, stored_drawing, stored_strokes};
+ghost use Rattle.engrave_core.specs.Loaded.{drawing_in, drawing_read, segments_read};
 ghost use Rattle.engrave_core.specs.Outcome.{outcome_of};
-ghost use Rattle.engrave_core.specs.Refusals.{IsRefusalOfCxf, IsRefusalOfDrawing, IsRefusalOfDxf, IsRefusalOfEdges, IsRefusalOfFile, IsRefusalOfForm, IsRefusalOfPbm, IsRefusalOfSegments};
+ghost use Rattle.engrave_core.specs.Refusals.{IsRefusalOfCxf, IsRefusalOfDrawing, IsRefusalOfDxf, IsRefusalOfEdges, IsRefusalOfFile, IsRefusalOfForm, IsRefusalOfOpenForm, IsRefusalOfPbm, IsRefusalOfSegments, IsRefusalOfStroked};
 ghost use Rattle.engrave_core.specs.Stored.{AnswersFrom, IsReadAs};
 ghost use Rattle.engrave_core.specs.declared.outcome.Which.TheVariants as which;
 
@@ -43,6 +44,13 @@ struct Read {
     skipped: Option<u32>,
 }
 
+/// The loose segments of a drawing's file. Points that are close are one.
+#[derive(Drop)]
+struct Segments {
+    segs: Vec<Seg>,
+    skipped: Option<u32>,
+}
+
 /// The drawing that the words name, or the refusal.
 #[tactic(auto, unfolding(crate::specs::Drawing::IsDrawingOf))]
 pub fn load_drawing<D: Depot>(
@@ -56,6 +64,47 @@ pub fn load_drawing<D: Depot>(
 {
     let read = load_any_drawing(alloc, shape, depot)?;
     guard(alloc, read, shape.cross)
+}
+
+/// The strokes that the words name: the loose segments of their file, which aren't joined, and may cross. Or the refusal.
+#[tactic(auto, unfolding(crate::specs::Drawing::stored_strokes))]
+pub fn load_strokes<D: Depot>(
+    alloc: Global,
+    shape: &DrawingWords,
+    depot: &mut D,
+) -> Result<Vec<Seg>, Refusal>
+    requires shape { IsShapeInRange shape.now }
+    requires form { has_strokes shape.now.form ≡ true }
+    ensures value { AnswersFrom D.held D.faults D.misses depot.old depot.new (λ files. IsReadAs (λ strokes. strokes.items) (stored_strokes files shape.now)) result }
+    ensures refusal { IfErr result (λ refusal. IsRefusalOfStroked shape.now.form (outcome_of refusal)) }
+    ensures few { IfOk result (λ strokes. length strokes.items ≤ MOST_EDGES) }
+{
+    let bytes = load_file(
+        alloc,
+        shape.drawing.as_str(),
+        Which::Drawing,
+        MOST_DRAWING_BYTES as u64,
+        depot,
+    )?;
+    let read = read_segments(alloc, shape, &bytes)?;
+    Ok(read.segs)
+}
+
+/// The loose segments of a file's bytes, or the refusal.
+#[tactic(auto, unfolding(crate::specs::Drawing::segments_of))]
+fn read_segments(alloc: Global, shape: &DrawingWords, bytes: &[u8]) -> Result<Segments, Refusal>
+    requires shape { IsShapeInRange shape.now }
+    requires form { has_strokes shape.now.form ≡ true }
+    requires bytes { length bytes.now ≤ MOST_DRAWING_BYTES }
+    ensures value { IsReadAs segments_read (segments_of shape.now bytes.now) result }
+    ensures refusal { IfErr result (λ refusal. IsRefusalOfOpenForm shape.now.form (outcome_of refusal)) }
+    ensures few { IfOk result (λ read. length read.segs.items ≤ MOST_EDGES) }
+{
+    match shape.form {
+        FormWord::Dxf => read_dxf_segments(alloc, shape, bytes),
+        FormWord::Cxf => read_cxf_segments(alloc, shape, bytes),
+        FormWord::Loops | FormWord::Pbm => unreachable!(),
+    }
 }
 
 /// The same, whether or not its edges cross.
@@ -105,9 +154,28 @@ fn read_dxf_drawing(alloc: Global, shape: &DrawingWords, bytes: &[u8]) -> Result
     ensures value { IsReadAs drawing_read (dxf_read shape.now bytes.now) result }
     ensures refusal { IfErr result (λ refusal. IsRefusalOfDxf (outcome_of refusal) ⊎ IsRefusalOfSegments (outcome_of refusal)) }
 {
+    let read = read_dxf_segments(alloc, shape, bytes)?;
+    join_segments(alloc, &read.segs, read.skipped)
+}
+
+/// The loose segments of a DXF file, or the refusal.
+fn read_dxf_segments(
+    alloc: Global,
+    shape: &DrawingWords,
+    bytes: &[u8],
+) -> Result<Segments, Refusal>
+    requires shape { IsShapeInRange shape.now }
+    requires bytes { length bytes.now ≤ MOST_DRAWING_BYTES }
+    ensures value { IsReadAs segments_read (dxf_segments shape.now bytes.now) result }
+    ensures refusal { IfErr result (λ refusal. IsRefusalOfDxf (outcome_of refusal)) }
+    ensures few { IfOk result (λ read. length read.segs.items ≤ MOST_EDGES) }
+    ensures apart { IfOk result (λ read. All (λ s. s.a ≢ s.b) read.segs.items) }
+{
     let outline = read_dxf(alloc, bytes, shape.units, shape.chord)?;
-    let segs = snap(alloc, &outline.segs, shape.snap)?;
-    join_segments(alloc, &segs, Some(outline.skipped))
+    Ok(Segments {
+        segs: snap(alloc, &outline.segs, shape.snap)?,
+        skipped: Some(outline.skipped),
+    })
 }
 
 /// The drawing of a text in the letters of a font, or the refusal.
@@ -117,10 +185,29 @@ fn read_cxf_drawing(alloc: Global, shape: &DrawingWords, bytes: &[u8]) -> Result
     ensures value { IsReadAs drawing_read (cxf_read shape.now bytes.now) result }
     ensures refusal { IfErr result (λ refusal. IsRefusalOfCxf (outcome_of refusal) ⊎ IsRefusalOfSegments (outcome_of refusal)) }
 {
+    let read = read_cxf_segments(alloc, shape, bytes)?;
+    join_segments(alloc, &read.segs, read.skipped)
+}
+
+/// The loose segments of a text in the letters of a font, or the refusal.
+fn read_cxf_segments(
+    alloc: Global,
+    shape: &DrawingWords,
+    bytes: &[u8],
+) -> Result<Segments, Refusal>
+    requires shape { IsShapeInRange shape.now }
+    requires bytes { length bytes.now ≤ MOST_DRAWING_BYTES }
+    ensures value { IsReadAs segments_read (cxf_segments shape.now bytes.now) result }
+    ensures refusal { IfErr result (λ refusal. IsRefusalOfCxf (outcome_of refusal)) }
+    ensures few { IfOk result (λ read. length read.segs.items ≤ MOST_EDGES) }
+    ensures apart { IfOk result (λ read. All (λ s. s.a ≢ s.b) read.segs.items) }
+{
     let font = read_font(alloc, bytes)?;
     let letters = lay(alloc, &font, text_of(shape), &layout_of(shape), shape.chord)?;
-    let segs = snap(alloc, &letters, shape.snap)?;
-    join_segments(alloc, &segs, None)
+    Ok(Segments {
+        segs: snap(alloc, &letters, shape.snap)?,
+        skipped: None,
+    })
 }
 
 /// The text of the words; empty where there is none.

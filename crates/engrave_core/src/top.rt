@@ -3,7 +3,7 @@ ghost use Rattle.std.specs.Prelude.{◌≡◌, ◌⊎◌, map, string_bytes, IfS
 ghost use Rattle.job_words.specs.Request.{request_of};
 ghost use Rattle.shop_port.specs.Counts.{Rose};
 ghost use Rattle.shop_port.specs.Output.{Appended, AppendedPart};
-ghost use Rattle.engrave_core.specs.Due.{AsksForNoFile, IsAnswer, IsDue, IsGoodText, IsGoodRepairRun, IsSafeRun, IsTrueReport, IsTrueRun};
+ghost use Rattle.engrave_core.specs.Due.{AsksForNoFile, IsAnswer, IsDue, IsGoodText, IsGoodRepairRun, IsSafeRun, IsTrueEngraving, IsTrueReport, IsTrueRun};
 ghost use Rattle.engrave_core.specs.Stored.{IsCaused};
 ghost use Rattle.engrave_core.specs.Line.{line_of};
 ghost use Rattle.engrave_core.specs.Outcome.{IfAnswered, IfRefused, HasText};
@@ -47,6 +47,12 @@ pub fn engrave<D: Depot, S: Sink>(
     // And so are the points that are printed as uncut by a G-code program of anybody's.
     ensures covered { IfSome (D.held depot.old) (λ files. result ≡ Outcome.Done →
         Writes (IsTrueReport files (request_of (map string_bytes words.now))) (S.written out.old) (S.written out.new)) }
+
+    // A G-code program that is written for strokes removes a point, at any rational place, at some moment of some move, exactly where the
+    // point is within the bit's radius, at the depth, of a stroke; and the numbers that it prints are those of the points that it cuts, and
+    // of all points, round the strokes at the report's distance.
+    ensures engraved { IfSome (D.held depot.old) (λ files. result ≡ Outcome.Done →
+        Writes (IsTrueEngraving files (request_of (map string_bytes words.now))) (S.written out.old) (S.written out.new)) }
 
     // A G-code program that is repaired is called clear for its drawing and bit, removes no point, at any moment of any move, that the
     // stored one doesn't remove, and has the clear moves of that in their order; none is changed exactly where the stored one is called

@@ -5,11 +5,11 @@ use std::alloc::Global;
 use std::test::Fail;
 
 /// A font of two letters.
-const FONT: &str = "# a small font\n[I] 4\nL 0,0,2,0\nL 2,0,2,9\nL 2,9,0,9\nL 0,9,0,0\n\n\
+pub const FONT: &str = "# a small font\n[I] 4\nL 0,0,2,0\nL 2,0,2,9\nL 2,9,0,9\nL 0,9,0,0\n\n\
     [O] 2\nA 4.5,4.5,4.5,0,360\nA 4.5,4.5,2.5,0,360\n";
 
 /// What a run of the words, with this text besides, comes to over the font and a G-code program.
-fn run_text(
+pub fn run_text(
     alloc: Global,
     words: &str,
     text: &str,
