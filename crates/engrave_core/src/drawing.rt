@@ -159,11 +159,7 @@ fn read_dxf_drawing(alloc: Global, shape: &DrawingWords, bytes: &[u8]) -> Result
 }
 
 /// The loose segments of a DXF file, or the refusal.
-fn read_dxf_segments(
-    alloc: Global,
-    shape: &DrawingWords,
-    bytes: &[u8],
-) -> Result<Segments, Refusal>
+fn read_dxf_segments(alloc: Global, shape: &DrawingWords, bytes: &[u8]) -> Result<Segments, Refusal>
     requires shape { IsShapeInRange shape.now }
     requires bytes { length bytes.now ≤ MOST_DRAWING_BYTES }
     ensures value { IsReadAs segments_read (dxf_segments shape.now bytes.now) result }
@@ -190,11 +186,7 @@ fn read_cxf_drawing(alloc: Global, shape: &DrawingWords, bytes: &[u8]) -> Result
 }
 
 /// The loose segments of a text in the letters of a font, or the refusal.
-fn read_cxf_segments(
-    alloc: Global,
-    shape: &DrawingWords,
-    bytes: &[u8],
-) -> Result<Segments, Refusal>
+fn read_cxf_segments(alloc: Global, shape: &DrawingWords, bytes: &[u8]) -> Result<Segments, Refusal>
     requires shape { IsShapeInRange shape.now }
     requires bytes { length bytes.now ≤ MOST_DRAWING_BYTES }
     ensures value { IsReadAs segments_read (cxf_segments shape.now bytes.now) result }

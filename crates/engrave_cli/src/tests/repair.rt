@@ -10,7 +10,8 @@ const CHECK: &str = "check --drawing=d --code=c --bit=1/1 --rmax=200";
 /// A cut from one arm of the L to the other, past the inner corner.
 const ROUND: &str = "G21\nG0 Z2\nG0 X1 Y3\nG1 Z-1\nG1 X3 Y1\nM2\n";
 
-const ROUND_REPAIRED: &str = "(repaired 1 of 2)\nG21\nG90\nF500\nG0 Z2.000\nG0 X1.000 Y3.000\nG0 X1.000 Y3.000 Z2.000\n\
+const ROUND_REPAIRED: &str =
+    "(repaired 1 of 2)\nG21\nG90\nF500\nG0 Z2.000\nG0 X1.000 Y3.000\nG0 X1.000 Y3.000 Z2.000\n\
     G1 X1.000 Y3.000 Z-1.000\nG0 X1.000 Y3.000 Z2.000\nG0 X3.000 Y1.000 Z2.000\nG1 X3.000 Y1.000 Z-1.000\n\
     G0 X3.000 Y1.000 Z2.000\nM2\n";
 
@@ -19,7 +20,8 @@ const EMPTY_REPAIRED: &str = "(repaired 0 of 0)\nG21\nG90\nF500\nG0 Z2.000\nM2\n
 /// A plunge outside, from which the bit goes on below the surface into the L: it stays up until the end of that.
 const BEYOND: &str = "G0 Z2\nG0 X3 Y3\nG1 Z-0.1\nG1 X1\nG1 Y1\n";
 
-const BEYOND_REPAIRED: &str = "(repaired 2 of 3)\nG21\nG90\nF500\nG0 Z2.000\nG0 X3.000 Y3.000\nG0 X3.000 Y3.000 Z2.000\n\
+const BEYOND_REPAIRED: &str =
+    "(repaired 2 of 3)\nG21\nG90\nF500\nG0 Z2.000\nG0 X3.000 Y3.000\nG0 X3.000 Y3.000 Z2.000\n\
     G0 X3.000 Y3.000 Z2.000\nG0 X3.000 Y3.000 Z2.000\nG0 X1.000 Y3.000 Z2.000\nG1 X1.000 Y3.000 Z-0.100\n\
     G1 X1.000 Y1.000 Z-0.100\nG0 X1.000 Y1.000 Z2.000\nM2\n";
 
@@ -38,8 +40,10 @@ fn a_repaired_program_is_called_clear(rt: HostRuntime) -> Result<(), Fail> {
 
 #[test]
 fn a_repair_is_in_the_units_of_the_words(rt: HostRuntime) -> Result<(), Fail> {
-    let words = "repair --drawing=d --code=c --bit=1/1 --rmax=200 --units=in1000 --safe=100 --feed=20";
-    let repaired = "(repaired 0 of 1)\nG20\nG90\nF20\nG0 Z0.1000\nG0 X0.1000 Y0.3000\nG0 X0.1000 Y0.3000 Z0.2000\n\
+    let words =
+        "repair --drawing=d --code=c --bit=1/1 --rmax=200 --units=in1000 --safe=100 --feed=20";
+    let repaired =
+        "(repaired 0 of 1)\nG20\nG90\nF20\nG0 Z0.1000\nG0 X0.1000 Y0.3000\nG0 X0.1000 Y0.3000 Z0.2000\n\
         G1 X0.1000 Y0.3000 Z-0.0005\nG0 X0.1000 Y0.3000 Z0.1000\nM2\n";
     expect(
         &rt,

@@ -39,8 +39,9 @@ fn expect_strokes(
     ends: &[(&str, &str, &str, &str)],
     want: (u8, &str),
 ) -> Result<(), Fail> {
-    let words =
-        format!(in alloc; "strokes --drawing=d --form=dxf --rmax=600 --depth=10 {options}")?;
+    let words = format!(in alloc;
+        "strokes --drawing=d --form=dxf --rmax=600 --depth=10 {options}"
+    )?;
     let file = lines(alloc, ends)?;
     expect(rt, alloc, words.as_str(), (file.as_str(), ""), want)
 }
@@ -91,8 +92,7 @@ fn programs_along_lines(rt: HostRuntime) -> Result<(), Fail> {
              G1 X0.50 Y0.50 Z-0.10\nG0 Z2.00\n(cut 11 of 36)\nM2\n",
         ),
     )?;
-    let nothing =
-        "(strokes 0 chains 0 depth 10)\nG21\nG90\nF500\nG0 Z2.00\n(cut 0 of 0)\nM2\n";
+    let nothing = "(strokes 0 chains 0 depth 10)\nG21\nG90\nF500\nG0 Z2.00\n(cut 0 of 0)\nM2\n";
     expect_strokes(&rt, alloc, "--bit=1/1", &[], (0, nothing))
 }
 

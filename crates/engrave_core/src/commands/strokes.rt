@@ -69,13 +69,5 @@ fn text_of(
     let chains = in_order(alloc, chains, &numbers)?;
     let count = stroke_cut(alloc, strokes, &job.bit, depth, pitch)?;
     let number = strokes.len() as u32;
-    Ok(write_strokes(
-        alloc,
-        job,
-        number,
-        depth,
-        &chains,
-        count.cut,
-        count.points,
-    )?)
+    Ok(write_strokes(alloc, job, number, depth, &chains, count.cut, count.points)?)
 }
