@@ -773,6 +773,13 @@ def drawing_of(data, words):
     return guarded(joining.joined(segments), words), skipped
 
 
+def strokes_of(data, words):
+    """The strokes of a file of open lines: its segments, snapped and not joined."""
+    if len(data) > MOST_BYTES:
+        raise Refused("input too long drawing")
+    return {"dxf": dxf, "cxf": cxf}[words.form](data, words)[0]
+
+
 def loops_text(loops):
     return "".join(" ".join(f"{x},{y}" for x, y in loop) + "\n" for loop in loops)
 

@@ -241,7 +241,7 @@ def count_in(file, text):
 
 def reported(case):
     """How many rows and points a report may have at most, where the command makes one."""
-    if case.words[:1] not in ([b"cover"], [b"carve"]):
+    if case.words[:1] not in ([b"cover"], [b"carve"], [b"strokes"]):
         return 0, 0
     rows_up = 65_536 // number_in(case, b"pitch", 10) + 1
     return rows_up, min(rows_up**2, hostile_expected.MOST_REPORTED)
@@ -269,13 +269,14 @@ def bounds(case):
     # Devices that never end are read up to the limit.
     size += sum(limit for word in case.words for name, limit in large.ENDLESS.items() if word.startswith(name))
     moves = min(1 + count_in(case.files.get("c", []), b"\n"), large.MOST_MOVES)
-    pairs = moves * count_in(case.files.get("d", []), b",") if case.words[:1] == [b"check"] else 0
+    pairs = moves * count_in(case.files.get("d", []), b",") if case.words[:1] in ([b"check"], [b"repair"]) else 0
     points = count_in(case.files.get("d", []), b",") if case.words[:1] in ([b"contacts"], [b"carve"]) else 0
     contacts = min(points * (1 + hostile_expected.MOST_PIECES), hostile_expected.MOST_CONTACTS)
     nodes = min(contacts * hostile_expected.MOST_STEPS, hostile_expected.MOST_NODES) if case.words[:1] == [b"carve"] else 0
     form = next((word[7:] for word in case.words if word.startswith(b"--form=")), b"loops")
     segments = min(size / rows.BYTES_OF_A_SEGMENT.get(form, 1), hostile_expected.forms.MOST_SEGMENTS)
-    memory = rows.BYTES_A_BYTE * size + rows.BYTES_A_MOVE * moves + rows.BYTES_A_WORD * len(case.words)
+    # A repair keeps as much again for each move.
+    memory = rows.BYTES_A_BYTE * size + rows.BYTES_A_MOVE * moves * (2 if case.words[:1] == [b"repair"] else 1) + rows.BYTES_A_WORD * len(case.words)
     memory += rows.BYTES_A_CONTACT * contacts
     reading = rows.SECONDS_A_MEBIBYTE * size / MEBIBYTE + rows.SECONDS_A_MOVE * moves
     planning = rows.SECONDS_A_CONTACT * contacts + rows.SECONDS_A_NODE * nodes
@@ -283,13 +284,14 @@ def bounds(case):
     planning += rows.SECONDS_A_CELL * 80 if case.words[:1] == [b"trial"] else 0
     rows_up, dots = reported(case)
     planning += rows.SECONDS_A_SEGMENT * segments
-    reporting = rows.SECONDS_A_POINT * dots + rows.SECONDS_A_ROW * rows_up * (moves + nodes)
+    strokes = segments if case.words[:1] == [b"strokes"] else 0
+    reporting = rows.SECONDS_A_POINT * dots + rows.SECONDS_A_ROW * rows_up * (moves + nodes + strokes)
     return rows.SECONDS + reading + planning + reporting + rows.SECONDS_A_PAIR * pairs, rows.MEBIBYTES + memory / MEBIBYTE
 
 
 def lines_of(case, status):
     """How many lines a carved program or a report has; where it wasn't written, how many nodes or points it may have had."""
-    if case.words[:1] not in ([b"carve"], [b"cover"]) or status not in (0, 3, 7):
+    if case.words[:1] not in ([b"carve"], [b"cover"], [b"repair"], [b"strokes"]) or status not in (0, 3, 7):
         return 0
     if case.words[:1] == [b"cover"] and status:
         return reported(case)[1] // 2
@@ -363,7 +365,7 @@ def is_in_form(case, status):
         return line == b""
     if (command, status) == (b"flatten", 0):
         return line == b""
-    if (command, status) == (b"carve", 0):
+    if status == 0 and command in (b"carve", b"repair", b"strokes"):
         return line == b"M2\n" and listed >= 5
     if (command, status) == (b"cover", 0):
         return form.fullmatch(line) is not None

@@ -20,7 +20,7 @@ WAYS = b"none x y both"
 # The options that are numbers: what stands between the two where there are two, and what each ranges over.
 NUMBERS = {b"at": (b",", -32_768, 32_767), b"bit": (b"/", 1, 2000), b"rmax": (b"", 1, 8191), b"limit": (b"", 1, 32_767)}
 NUMBERS |= {b"step": (b"", 1, 32_767), b"safe": (b"", 1, 32_767), b"feed": (b"", 1, 10_000), b"pitch": (b"", 1, 32_767)}
-NUMBERS |= {b"over": (b"", 1, 8191), b"count": (b"", 1, 80), **{name: (b"", *ends) for name, ends in SHAPE.items()}}
+NUMBERS |= {b"depth": (b"", 1, 32_767), b"over": (b"", 1, 8191), b"count": (b"", 1, 80), **{name: (b"", *ends) for name, ends in SHAPE.items()}}
 DRAWN = b"drawing text " + b" ".join([*SHAPE, *SHAPE_WORDS])
 OPTIONS = {
     b"flatten": (DRAWN, b"drawing"),
@@ -30,6 +30,8 @@ OPTIONS = {
     b"check": (DRAWN + b" bit rmax code", b"drawing bit rmax code"),
     b"carve": (DRAWN + b" bit rmax step limit safe feed pitch pocket over", b"drawing bit rmax step"),
     b"cover": (DRAWN + b" bit rmax code pitch", b"drawing bit rmax code"),
+    b"strokes": (DRAWN + b" bit rmax depth safe feed pitch", b"drawing bit rmax depth"),
+    b"repair": (DRAWN + b" bit rmax code safe feed", b"drawing bit rmax code"),
     b"trial": (b"count", b"count"),
 }
 KNOWN = {name for known, _ in OPTIONS.values() for name in known.split()}
@@ -79,15 +81,19 @@ def request(words):
         raise Refusal(2, b"usage\n")
     if b"text" in values and not 1 <= len(values[b"text"].decode()) <= 200 or values.get(b"form") == b"cxf" and b"text" not in values:
         raise Refusal(2, b"usage\n")
+    if command == b"strokes":
+        (sn, sd), (rmax,), (depth,) = taken[b"bit"], taken[b"rmax"], taken[b"depth"]
+        if values.get(b"form") not in (b"dxf", b"cxf") or sn * depth > sd * rmax:
+            raise Refusal(2, b"usage\n")
     return command, values, taken
 
 
-def drawing_of(values, taken, data):
-    """The loops of a drawing, and how many entities of its file were skipped."""
+def read_by(read, values, taken, data):
+    """What is read of a drawing's file by its words."""
     said = {name.decode(): values[name].decode() for name in (*SHAPE_WORDS, b"text") if name in values}
     said |= {name.decode(): taken[name][0] for name in SHAPE if name in taken}
     try:
-        return forms.drawing_of(data, forms.Words(**said))
+        return read(data, forms.Words(**said))
     except joining.Refused as refused:
         raise Refusal(3, str(refused).encode() + b"\n") from None
 
@@ -132,6 +138,19 @@ def check_report(edges, pitch):
     counts = [max(side) // pitch + -min(side) // pitch + 1 for side in sides if side]
     if counts and counts[0] * counts[1] > MOST_REPORTED:
         raise Refusal(3, b"input too many points\n")
+
+
+def check_box(strokes, taken):
+    """Refuses strokes with too many points round them."""
+    if strokes:
+        (sn, sd), (depth,), pitch = taken[b"bit"], taken[b"depth"], taken.get(b"pitch", [10])[0]
+        reach, counts = -(-sn * depth // sd), []
+        for axis in (0, 1):
+            side = [end[axis] for stroke in strokes for end in stroke]
+            low, high = max(min(side) - reach, -32_768), min(max(side) + reach, 32_767)
+            counts.append(high // pitch + -low // pitch + 1)
+        if counts[0] * counts[1] > MOST_REPORTED:
+            raise Refusal(3, b"input too many points\n")
 
 
 def milled(edges, values, taken):
@@ -246,7 +265,14 @@ def due(words, files):
         if command == b"trial":
             return (0,), None
         if command != b"moves":
-            loops, skipped = drawing_of(values, taken, file_of(files, values[b"drawing"], b"drawing", MOST_DRAWING))
+            read = forms.strokes_of if command == b"strokes" else forms.drawing_of
+            drawn = read_by(read, values, taken, file_of(files, values[b"drawing"], b"drawing", MOST_DRAWING))
+        if command == b"strokes":
+            # Where there are strokes, the lines are judged by their form.
+            check_box(drawn, taken)
+            return (0,), None
+        if command != b"moves":
+            loops, skipped = drawn
             edges = joining.edges_of(loops)
         if command == b"flatten":
             return (0,), (b"" if skipped is None else b"# skipped %d\n" % skipped) + forms.loops_text(loops).encode()
@@ -267,6 +293,9 @@ def due(words, files):
             # Where something is drawn, the lines are judged by their form.
             check_report(edges, taken.get(b"pitch", [10])[0])
             return (0,), None if edges else b"uncut 0 of 0\n"
+        if command == b"repair":
+            # The lines are judged by their form.
+            return (0,), None
     except UnicodeDecodeError:
         return (8,), b""
     except Refusal as refusal:

@@ -20,7 +20,10 @@ CARVED_LINE = re.compile(rb"(%s)\n" % rb"|".join(CARVED_LINES))
 # The lines that are listed by a command, before its last line or alone.
 POINT = rb"-?%s,-?%s" % ((COUNT,) * 2)
 LOOP = re.compile(rb"# skipped %s\n|%s( %s)+\n" % (COUNT, POINT, POINT))
-LISTED_LINES = {b"moves": MOVE, b"contacts": CONTACT, b"carve": CARVED_LINE, b"cover": re.compile(RUN + rb"\n"), b"flatten": LOOP}
+WRITTEN = [rb"G2[01]", rb"G90", rb"F%s" % COUNT, rb"G[01]( [XYZ]-?(0|[1-9][0-9]*)\.[0-9]{1,4}){1,3}"]
+REPAIRED_LINE = re.compile(rb"(%s)\n" % rb"|".join([rb"\(repaired %s of %s\)" % ((COUNT,) * 2), *WRITTEN]))
+STROKES_LINE = re.compile(rb"(%s)\n" % rb"|".join([rb"\(strokes %s chains %s depth %s\)" % ((COUNT,) * 3), rb"\(cut %s of %s\)" % ((COUNT,) * 2), *WRITTEN]))
+LISTED_LINES = {b"repair": REPAIRED_LINE, b"strokes": STROKES_LINE, b"moves": MOVE, b"contacts": CONTACT, b"carve": CARVED_LINE, b"cover": re.compile(RUN + rb"\n"), b"flatten": LOOP}
 LOOPS_KINDS = rb" (syntax|out of range|same point|too many|short)"
 FORMS_KINDS = rb"|dxf pair [1-9][0-9]* (bad code|missing (10|11|20|21|40|50|51)|number|unended|out of range|too many)"
 FORMS_KINDS += rb"|cxf line [1-9][0-9]* (syntax|number)|lay (no glyph " + COUNT + rb"|out of range|too many)"
@@ -34,7 +37,7 @@ FORMS = {
     (b"trial", 0): rb"trial %s loops %s edges %s contacts %s\nnodes %s chains %s\nclear %s moves\n%s\n" % (*(COUNT,) * 7, LEFT),
     (b"check", 1): rb"line [1-9][0-9]* (too deep|gouge edge " + COUNT + rb"|outside)\n",
     2: rb"usage\n",
-    3: rb"input (too long (drawing|code)|loops " + COUNT + LOOPS_KINDS + FORMS_KINDS + rb"|code line [1-9][0-9]*" + CODE_KINDS + rb"|step too fine " + COUNT + rb"|too many (contacts|nodes|chains|points))\n",
+    3: rb"input (too long (drawing|code)|loops " + COUNT + LOOPS_KINDS + FORMS_KINDS + rb"|code line [1-9][0-9]*" + CODE_KINDS + rb"|step too fine " + COUNT + rb"|too many (contacts|nodes|chains|points|moves))\n",
     4: rb"absent (drawing|code)\n",
     5: rb"read fault\n",
     6: rb"",
