@@ -66,8 +66,17 @@ fn text_of(
 {
     let chains = stroke_chains(alloc, strokes, depth)?;
     let numbers = order(alloc, &chains)?;
-    let chains = in_order(alloc, chains, &numbers)?;
+    let ordered = in_order(alloc, chains, &numbers)?;
     let count = stroke_cut(alloc, strokes, &job.bit, depth, pitch)?;
     let number = strokes.len() as u32;
-    Ok(write_strokes(alloc, job, number, depth, &chains, count.cut, count.points)?)
+    let text = write_strokes(
+        alloc,
+        job,
+        number,
+        depth,
+        &ordered,
+        count.cut,
+        count.points,
+    )?;
+    Ok(text)
 }
