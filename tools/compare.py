@@ -24,6 +24,7 @@ import form_cases
 import forms
 import joining
 import sampling
+import strokes
 import trial
 from definitions import MOST_DEPTH, Bit
 from wrong_definitions import WRONG
@@ -47,12 +48,16 @@ DEPTHS, CODES, LISTED, STEPS, DISCS, CARVED, PER_COVERED = 12, 14, 2, 2, 6, 1, 3
 # hundred of these are taken; and of how many cells there is a trial
 FORMED, ANEW, CROSSED, TRIALS = 5, 30, 20, (1, 2)
 
+# about how many pairs of a point and a stroke are asked, of each file
+ASKED = 3000
+
 SPARED, WITHIN = "clear: edges of which no sampled point is removed", "clear: removed points that are inside"
 CARVED_MOVES, CARVED_CLEAR = "carve: the moves of the program", "carve: the program is called clear"
 REPAIRED_CLEAR = "repair: the program is called clear"
 COMPARED = ["crossing", "taken", "inside", "depth", "contacts", "discs", "moves", "check", "cover", "repair", REPAIRED_CLEAR, SPARED, WITHIN, "carve", CARVED_MOVES, CARVED_CLEAR]
+ENGRAVED = "strokes"
 AGAIN, ALIKE = "flatten: what was written, again", "the same answer for a file and what it is flattened to"
-COMPARED += [f"flatten: {form}" for form in form_cases.MAKERS] + [AGAIN, ALIKE, "trial"]
+COMPARED += [f"flatten: {form}" for form in form_cases.MAKERS] + [AGAIN, ALIKE, ENGRAVED, "trial"]
 
 
 class Comparison:
@@ -318,7 +323,32 @@ class Comparison:
         for form in form_cases.MAKERS:
             for number in range(FORMED):
                 data, words = form_cases.formed(self.rng, form)
-                self.compare_flattened(self.write(f"{form}{number}", data), words)
+                path = self.write(f"{form}{number}", data)
+                self.compare_flattened(path, words)
+                if form in ("dxf", "cxf"):
+                    self.compare_engraved(path, words)
+
+    def stroke_job(self, data, words):
+        """What strokes are engraved with; the points are far enough apart to be few."""
+        sn, sd, depth = self.rng.choice([1, 2, 571, 2000]), self.rng.choice([1, 3, 989, 2000]), self.rng.choice([1, 7, 60, self.rng.randint(1, 400)])
+        rmax = min(8191, max(1, -(-sn * depth // sd) + self.rng.choice([-1, 0, 0, 0, 1, 9])))
+        job = strokes.StrokeJob(words.units, Bit(sn, sd, rmax), depth, self.rng.choice([1, 200, 32767]), self.rng.randint(1, 10000), 1)
+        try:
+            found = forms.strokes_of(data, words)
+        except joining.Refused:
+            return job
+        columns, rows = strokes.points_of(found, job)
+        return job._replace(pitch=min(32767, 1 + math.isqrt(len(columns) * len(rows) * len(found) // ASKED)))
+
+    def compare_engraved(self, path, words):
+        data = path.read_bytes()
+        job = self.stroke_job(data, words)
+        options = [f"--drawing={path}", *form_cases.options_of(self.rng, words), f"--bit={job.bit.sn}/{job.bit.sd}", f"--rmax={job.bit.rmax}"]
+        options += [f"--depth={job.depth}", f"--safe={job.safe}", f"--feed={job.feed}", f"--pitch={job.pitch}"]
+        self.rng.shuffle(options)
+        due = strokes.engraved(data, words, job)
+        self.agree(ENGRAVED, due, self.run("strokes", *options), "strokes", *options)
+        self.spread[f"strokes: {'done' if due[0] == 0 else kind_of(*due)}"] += 1
 
     def compare_flattened(self, path, words):
         options = [f"--drawing={path}", *form_cases.options_of(self.rng, words)]

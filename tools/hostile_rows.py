@@ -59,6 +59,7 @@ CARVE = "carve --drawing=d --bit=1/1 --rmax=600 --step=500"
 SPREAD = "carve --drawing=d --bit=2/1 --rmax=1 --step=4 --pitch=32767"
 COVER = "cover --drawing=d --code=c --bit=1/1 --rmax=200"
 FLATTEN = "flatten --drawing=d"
+STROKES = "strokes --drawing=d --form=dxf --bit=1/1 --rmax=600 --depth=10"
 
 # Drawings for PROBE: the bytes, the status, the line.
 DRAWINGS = [
@@ -535,6 +536,24 @@ M2""",
     (CARVE + " --pitch=0", 2, "usage"),
     (CARVE + " --pitch=32768", 2, "usage"),
     (CARVE + " --pitch=1.0", 2, "usage"),
+    (STROKES, 3, "input dxf pair 1 bad code"),
+    (STROKES + " --safe=1 --feed=1 --pitch=1 --units=mm10", 3, "input dxf pair 1 bad code"),
+    (STROKES.replace("--depth=10", "--depth=600"), 3, "input dxf pair 1 bad code"),
+    (STROKES.replace("--depth=10", "--depth=601"), 2, "usage"),
+    (STROKES.replace("--depth=10", "--depth=0"), 2, "usage"),
+    (STROKES.replace("--depth=10", "--depth=32768"), 2, "usage"),
+    (STROKES.replace("--depth=10", ""), 2, "usage"),
+    (STROKES.replace("--rmax=600", "--rmax=9"), 2, "usage"),
+    (STROKES.replace("--form=dxf", ""), 2, "usage"),
+    (STROKES.replace("--form=dxf", "--form=loops"), 2, "usage"),
+    (STROKES.replace("--form=dxf", "--form=pbm"), 2, "usage"),
+    (STROKES.replace("--form=dxf", "--form=cxf"), 2, "usage"),
+    (STROKES.replace("--form=dxf", "--form=cxf --text=I"), 3, "input cxf line 1 syntax"),
+    (STROKES.replace("--drawing=d", "--drawing=nothing"), 4, "absent drawing"),
+    (STROKES + " --step=1", 2, "usage"),
+    (STROKES + " --limit=1", 2, "usage"),
+    (STROKES + " --depth=10", 2, "usage"),
+    ("strokes", 2, "usage"),
     ("cover", 2, "usage"),
     (COVER.replace("--code=c", ""), 2, "usage"),
     (COVER.replace("--drawing=d", ""), 2, "usage"),

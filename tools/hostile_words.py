@@ -9,7 +9,9 @@ from hostile_expected import NUMBERS, OPTIONS, SHAPE_WORDS, WAYS
 
 FILES = {b"drawing": b"d", b"code": b"c"}
 # numbers that keep a run short, for what may make it long
-SHORT = {b"over": [50, 100, 500], b"step": [250, 500], b"pitch": [100, 1000], b"count": [1, 2, 3], b"limit": [1, 60, 300], b"rmax": [2, 60, 600]}
+SHORT = {b"over": [50, 100, 500], b"step": [250, 500], b"pitch": [100, 1000], b"count": [1, 2, 3], b"limit": [1, 60, 300], b"depth": [1, 10, 60], b"rmax": [2, 60, 600]}
+# what open lines may come in, and the options that say so
+OPEN_FORMS, OPEN = [b"dxf", b"cxf"], [b"form", b"text"]
 NOT_NUMBERS = [b"", b"-", b"+1", b"1.0", b"0x1", b" 1", b"1 ", b"one", b"1,1", b"1/1", b"9999999999", b"-1", b"\xc3\xa9"]
 NOT_NAMES = [b"", b"None", b"X", b"xy", b"both ", b"even", b"evenodd\n", b"refuse,evenodd", b"loop"]
 NOWHERE = [b"help", b"count", b"cross-", b"pocket-way", b"o", b"", b"Over"]
@@ -45,6 +47,7 @@ def value(chance, name):
 def chosen(chance, command):
     """The names of the options: those that are required, and some of the others; seldom one less, one twice, or one of another command."""
     known, required = (names.split() for names in OPTIONS[command])
+    required += OPEN if command == b"strokes" else []
     names = required + chance.sample([name for name in known if name not in required], chance.choice([0, 1, 1, 2, 3]) if len(known) > 5 else 0)
     wrong = chance.random()
     if wrong < 0.03:
@@ -52,7 +55,7 @@ def chosen(chance, command):
     elif wrong < 0.06:
         names.append(chance.choice(names))
     elif wrong < 0.1:
-        names.append(chance.choice([b"over", b"pocket", b"cross", b"count", b"at", b"code"]))
+        names.append(chance.choice([b"over", b"pocket", b"cross", b"count", b"at", b"code", b"depth"]))
     chance.shuffle(names)
     return names
 
@@ -63,6 +66,8 @@ def command(chance):
     words = [name]
     for option in chosen(chance, name):
         text = value(chance, option) if option in hostile_expected.KNOWN else b"1"
+        if name == b"strokes" and option == b"form" and chance.random() < 0.9:
+            text = chance.choice(OPEN_FORMS)
         words += [b"--%s=%s" % (option, text)] if chance.random() < 0.8 else [b"--" + option, text]
     if chance.random() < 0.03:
         words.insert(chance.randint(0, len(words)), chance.choice([b"--", b"-", b"d", *(b"--" + other for other in NOWHERE)]))

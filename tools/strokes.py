@@ -2,7 +2,9 @@
 
 from typing import NamedTuple
 
+import forms
 from definitions import UNIT_WORDS, Bit, Node, chain_lines, is_in_disc, length_text, multiples, nearest_point, ordered
+from joining import Refused
 
 # the coordinates of the grid, and how many points a report may have
 LOW, HIGH, MOST_POINTS = -32_768, 32_767, 16_777_216
@@ -51,15 +53,24 @@ def points_of(strokes, job):
 
 
 def text_of(strokes, job):
-    """The whole text that is written, and the exit status."""
+    """The whole text that is written."""
     columns, rows = points_of(strokes, job)
-    count = len(columns) * len(rows)
-    if count > MOST_POINTS:
-        return "input too many points\n", 3
+    if len(columns) * len(rows) > MOST_POINTS:
+        raise Refused("input too many points")
     chains = ordered(chains_of(strokes, job.depth))
     cut = sum(is_cut(strokes, job, (x, y)) for y in rows for x in columns)
     lines = [f"(strokes {len(strokes)} chains {len(chains)} depth {job.depth})"]
     lines += [UNIT_WORDS[job.units], "G90", f"F{job.feed}", f"G0 Z{length_text(job.units, job.safe)}"]
     lines += [line for chain in chains for line in chain_lines(job, chain)]
-    lines += [f"(cut {cut} of {count})", "M2"]
-    return "".join(line + "\n" for line in lines), 0
+    lines += [f"(cut {cut} of {len(columns) * len(rows)})", "M2"]
+    return "".join(line + "\n" for line in lines)
+
+
+def engraved(data, words, job):
+    """The status and the text of `strokes`; at the depth the bit may not be wider than its greatest radius."""
+    if job.bit.sn * job.depth > job.bit.sd * job.bit.rmax:
+        return 2, "usage\n"
+    try:
+        return 0, text_of(forms.strokes_of(data, words), job)
+    except Refused as refused:
+        return 3, f"{refused}\n"
