@@ -3,7 +3,6 @@ use Rattle.std.specs.Prelude.{map}
 use Rattle.std.proofs.Common.{◌≤◌, ap, inl, length, subst, sym, ◌∙◌}
 use Rattle.path_order.specs.Order.{IsOrder, chain_at}
 use Rattle.plane_exact.specs.declared.node.TheConstants.{MOST_CHAINS}
-use Rattle.stroke_engrave.specs.Chains.{chains_of}
 use Rattle.stroke_engrave.proofs.Along.{chains_few}
 use Rattle.engrave_core.specs.Commands.Strokes.{IsEngravedOrRefused}
 use Rattle.engrave_core.specs.Refusals.{cover_refusal}
