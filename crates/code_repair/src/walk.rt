@@ -31,7 +31,8 @@ impl Visits {
         ensures safe { self.new.safe ≡ self.old.safe }
         ensures counted { OnOk result (self.new.changed ≤ self.old.changed + 1) }
     {
-        if is_clear(scene, bit, mv) {
+        let stays = is_clear(scene, bit, mv);
+        if stays {
             self.stay(mv)?;
         } else if self.can_land(scene, bit, mv.to) {
             self.hop(mv)?;
