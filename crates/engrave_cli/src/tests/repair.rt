@@ -38,6 +38,38 @@ fn a_repaired_program_is_called_clear(rt: HostRuntime) -> Result<(), Fail> {
     Ok(())
 }
 
+/// A clear plunge, a cut across the corner between its ends, a plunge into an edge, one that is too deep for the bit, one outside, a way
+/// through an edge, and a clear cut.
+const EACH_KIND: &str =
+    "G0 Z2\nG0 X1 Y3\nG1 Z-1\nG1 X3 Y1\nG1 Z-1.5\nG0 Z2\nG0 X1 Y1\nG1 Z-3\nG0 Z2\nG0 X3 Y3\nG1 Z-0.5\n\
+    G1 X1\nG1 Y1\n";
+
+const EACH_KIND_REPAIRED: &str =
+    "(repaired 7 of 11)\nG21\nG90\nF500\nG0 Z2.000\nG0 X1.000 Y3.000\nG0 X1.000 Y3.000 Z2.000\n\
+    G1 X1.000 Y3.000 Z-1.000\nG0 X1.000 Y3.000 Z2.000\nG0 X3.000 Y1.000 Z2.000\nG1 X3.000 Y1.000 Z-1.000\n\
+    G0 X3.000 Y1.000 Z2.000\nG0 X3.000 Y1.000 Z2.000\nG0 X3.000 Y1.000 Z2.000\nG0 X3.000 Y1.000 Z2.000\n\
+    G0 X1.000 Y1.000 Z2.000\nG0 X1.000 Y1.000 Z2.000\nG0 X1.000 Y1.000 Z2.000\nG0 X1.000 Y1.000 Z2.000\n\
+    G0 X1.000 Y1.000 Z2.000\nG0 X3.000 Y3.000 Z2.000\nG0 X3.000 Y3.000 Z2.000\nG0 X3.000 Y3.000 Z2.000\n\
+    G0 X1.000 Y3.000 Z2.000\nG1 X1.000 Y3.000 Z-0.500\nG1 X1.000 Y1.000 Z-0.500\nG0 X1.000 Y1.000 Z2.000\nM2\n";
+
+#[test]
+fn each_kind_of_fault_is_mended_and_no_more_is_cut(rt: HostRuntime) -> Result<(), Fail> {
+    let cover = "cover --drawing=d --code=c --bit=1/1 --rmax=200 --pitch=50";
+    let left =
+        "uncut y 50 x 50 to 200\nuncut y 100 x 50 to 50\nuncut y 100 x 150 to 200\nuncut y 150 x 50 to 50\n\
+        uncut y 150 x 150 to 200\nuncut y 200 x 50 to 50\nuncut y 200 x 150 to 150\nuncut 12 of 33\n";
+    for (words, code, want) in [
+        (CHECK, EACH_KIND, (1, "line 4 gouge edge 2\n")),
+        (REPAIR, EACH_KIND, (0, EACH_KIND_REPAIRED)),
+        (CHECK, EACH_KIND_REPAIRED, (0, "clear 21 moves\n")),
+        (cover, EACH_KIND, (0, "uncut 0 of 33\n")),
+        (cover, EACH_KIND_REPAIRED, (0, left)),
+    ] {
+        expect(&rt, rt.alloc(), words, (ANGLE, code), want)?;
+    }
+    Ok(())
+}
+
 #[test]
 fn a_repair_is_in_the_units_of_the_words(rt: HostRuntime) -> Result<(), Fail> {
     let words =
