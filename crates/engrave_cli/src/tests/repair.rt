@@ -89,9 +89,9 @@ fn a_repair_is_in_the_units_of_the_words(rt: HostRuntime) -> Result<(), Fail> {
 #[test]
 fn what_the_program_or_the_drawing_lacks_is_refused(rt: HostRuntime) -> Result<(), Fail> {
     for (drawing, code, want) in [
-        ("0,0 1", "", (3, "input loops line 1 syntax\n")),
+        ("0,0 1", "", (3, "input loops 4 syntax\n")),
         (ANGLE, "G2 X1", (3, "input code line 1 word\n")),
-        ("0,0 1", "G2 X1", (3, "input loops line 1 syntax\n")),
+        ("0,0 1", "G2 X1", (3, "input loops 4 syntax\n")),
     ] {
         expect(&rt, rt.alloc(), REPAIR, (drawing, code), want)?;
     }
