@@ -5,3 +5,4 @@ pub mod Lines
 pub mod Longest
 pub mod Packing
 pub mod Scan
+pub mod Steady

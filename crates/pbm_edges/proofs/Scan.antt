@@ -1,5 +1,5 @@
 -- What is still to come on a line, at a place of it.
-use Rattle.std.proofs.Common.{◌≡◌, ◌<◌, ◌≤◌, ℕ, suc, ◌+◌, ◌-◌, true, false, List, [], ◌∷◌, ◌++◌, length, map, refl, sym, subst, ap, ◌∙◌, arith, append_assoc}
+use Rattle.std.proofs.Common.{◌≡◌, ◌<◌, ◌≤◌, ℕ, zero, suc, ◌+◌, ◌-◌, true, false, List, [], ◌∷◌, ◌++◌, length, map, refl, sym, subst, ap, ◌∙◌, arith, append_assoc}
 use Rattle.std.proofs.lemmas.List.{append-nil, map-append}
 use Rattle.plane_exact.specs.declared.point.Seg.{Seg}
 use Rattle.pbm_edges.specs.Boundary.{boundary_run, repeated, runs_behind, runs_of, same_side, segment_of, segments_on, side_at, sides_along}
@@ -105,6 +105,27 @@ module _ (image : Pixels) (pixel : ℕ) (line : Line) where
     within = omega arith;
     few = few;
   }
+
+  -- so do those up to a later place
+  pub went_far : {segs whole : List Seg} {side : Side} {first : ℕ} (n k until : ℕ) → IsScanned segs whole side first k → k + n ≡ until → until ≤ sides_along image line
+      → ((j : ℕ) → k ≤ j → j < until → same_side side (side_at image line j) ≡ true) → IsScanned segs whole side first until
+  went_far {segs} {whole} {side} {first} zero k until so is within goes = subst (λ k. IsScanned segs whole side first k) (let here : k ≡ until = omega arith in here) so
+  went_far {segs} {whole} {side} {first} (suc n) k until so is within goes =
+      went_far n (k + 1) until (went_on so (omega arith) (side_at image line k) refl (goes k (omega arith) (omega arith))) (omega arith) within (λ j from to. goes j (omega arith) to)
+
+same_self : (side : Side) → same_side side side ≡ true
+same_self Level = refl
+same_self Onward = refl
+same_self Back = refl
+
+-- sides that are the same as one that goes on with a run, or begins one
+pub goes_far : (image : Pixels) (line : Line) (side next : Side) (i until : ℕ) → same_side side next ≡ true → ((j : ℕ) → i ≤ j → j < until → side_at image line j ≡ next)
+    → (j : ℕ) → i + 1 ≤ j → j < until → same_side side (side_at image line j) ≡ true
+goes_far image line side next i until is same j from to = ap (same_side side) (same j (omega arith) to) ∙ is
+
+pub begins_far : (image : Pixels) (line : Line) (next : Side) (i until : ℕ) → ((j : ℕ) → i ≤ j → j < until → side_at image line j ≡ next)
+    → (j : ℕ) → i + 1 ≤ j → j < until → same_side next (side_at image line j) ≡ true
+begins_far image line next i until same = goes_far image line next next i until (same_self next) same
 
 -- the same values by other names
 pub renamed : {image : Pixels} {pixel : ℕ} {line : Line} {segs now whole : List Seg} {side next : Side} {first begun i : ℕ} → IsScanned image pixel line segs whole side first i → now ≡ segs → next ≡ side → begun ≡ first → IsScanned image pixel line now whole next begun i

@@ -6,5 +6,6 @@ pub mod Law
 pub mod Packed
 pub mod Pbm
 pub mod Pixels
+pub mod Same
 pub mod State
 pub mod Stored

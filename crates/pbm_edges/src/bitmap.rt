@@ -29,8 +29,9 @@ impl Model for Bitmap {
 }
 
 impl Bitmap {
-    ghost use Rattle.std.specs.Prelude.{◌<◌};
+    ghost use Rattle.std.specs.Prelude.{◌<◌, IfSome};
     ghost use Rattle.pbm_edges.specs.Pixels.{is_black_at, is_black_in};
+    ghost use Rattle.pbm_edges.specs.Same.{IsPackedOf};
 
     /// The bitmap with these sides and pixels.
     pub(crate) fn of(width: u32, height: u32, cells: Cells) -> Bitmap
@@ -69,7 +70,17 @@ impl Bitmap {
         is_black(&self.cells, self.width, self.height, col, row)
     }
 
-    /// The same for columns and rows counted from 1. Beyond the image all is white.
+    /// The packed rows, where the image is kept so.
+    pub(crate) fn packed(&self) -> Option<&[u8]>
+        ensures { IfSome result (λ bytes. IsPackedOf self.now bytes.now) }
+    {
+        match &self.cells {
+            Cells::Plain(_) => None,
+            Cells::Packed(rows) => Some(rows),
+        }
+    }
+
+    /// As `black` for columns and rows counted from 1. Beyond the image all is white.
     pub(crate) fn is_black_in(&self, x: u32, y: u32) -> bool
         ensures { result ≡ is_black_in self.now x y }
     {

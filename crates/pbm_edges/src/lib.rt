@@ -12,6 +12,7 @@ mod header;
 mod law;
 mod magic;
 mod reader;
+mod same;
 mod side;
 #[cfg(test)]
 mod tests;

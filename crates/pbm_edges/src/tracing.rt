@@ -2,10 +2,12 @@
 ghost use Rattle.std.specs.Prelude.{◌≡◌, ◌≢◌, ◌+◌, ◌*◌, ◌<◌, ◌≤◌, ◌++◌, All, Err, IfErr, IfOk, Ok, OnOk, length, map};
 ghost use Rattle.plane_exact.specs.Cone.{IsFromOneTo};
 ghost use Rattle.pbm_edges.specs.Pixels.{IsBitmap};
+ghost use Rattle.pbm_edges.specs.Same.{AreSteady};
 ghost use Rattle.pbm_edges.specs.Boundary.{IsLineOf, IsWithinGrid, boundary_run, corner_at, edges_of_pixels, segment_of, segments_on, side_at, sides_along};
 
 use crate::bitmap::Bitmap;
 use crate::fault::FlatFault;
+use crate::same::{end_of_same, steady_blocks};
 use crate::side::{Line, Side, Stretch};
 use plane_exact::{Point, Seg};
 use std::alloc::Global;
@@ -34,19 +36,27 @@ pub fn edges(alloc: Global, map: &Bitmap, pixel: u32) -> Result<Vec<Seg>, FlatFa
     if map.width() * pixel > MOST_COORDINATE || map.height() * pixel > MOST_COORDINATE {
         return Err(FlatFault::OutOfRange);
     }
+    let steady = steady_blocks(alloc, map)?;
     let mut segs = Vec::new(alloc);
     for rows in 0..map.height() + 1 {
-        add_line(map, pixel, Line::Across(rows), &mut segs)?;
+        add_line(map, &steady, pixel, Line::Across(rows), &mut segs)?;
     }
     for columns in 0..map.width() + 1 {
-        add_line(map, pixel, Line::Up(columns), &mut segs)?;
+        add_line(map, &steady, pixel, Line::Up(columns), &mut segs)?;
     }
     Ok(segs)
 }
 
 // Appends the segments on a line.
-fn add_line(image: &Bitmap, pixel: u32, line: Line, segs: &mut Vec<Seg>) -> Result<(), FlatFault>
+fn add_line(
+    image: &Bitmap,
+    steady: &[bool],
+    pixel: u32,
+    line: Line,
+    segs: &mut Vec<Seg>,
+) -> Result<(), FlatFault>
     requires image { IsBitmap image.now }
+    requires steady { AreSteady image.now steady.now }
     requires grid { IsWithinGrid image.now pixel }
     requires on { IsLineOf image.now line }
     requires few { length segs.old.items ≤ MOST_SEGMENTS }
@@ -57,7 +67,8 @@ fn add_line(image: &Bitmap, pixel: u32, line: Line, segs: &mut Vec<Seg>) -> Resu
     let count = sides_along(image, line);
     let mut side = Side::Level;
     let mut first = 0;
-    for i in 0..count {
+    let mut i = 0;
+    while i < count {
         let next = side_at(image, line, i);
         if !side.is_same(next) {
             let run = Stretch {
@@ -69,6 +80,7 @@ fn add_line(image: &Bitmap, pixel: u32, line: Line, segs: &mut Vec<Seg>) -> Resu
             side = next;
             first = i;
         }
+        i = end_of_same(image, steady, line, i, next);
     }
     let run = Stretch {
         first,

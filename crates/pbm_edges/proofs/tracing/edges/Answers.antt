@@ -33,7 +33,7 @@ returns-in_err-add_line-clause-fault c =
     let up : c.height.result * c.args.pixel ≡ map.height * c.args.pixel = ap (λ height. height * c.args.pixel) c.height.ensures.value in
     let grid : IsWithinGrid map c.args.pixel = record { across = omega arith; up = omega arith } in
     let on : c.loop-rows.rows < map.height + 1 = omega arith in
-    let p = err_from_is_err_and c.from_residual.result c.from_residual.ensures.1 in
+    let p = err_from_is_err_and c.from_residual-in_err-add_line.result c.from_residual-in_err-add_line.ensures.1 in
     rw (p.1, p.2) (λ kind.
     let full = c.in_err-add_line.ensures.fault kind in
     rw full.0 (edges-TooMany map c.args.pixel grid (too_many map c.args.pixel Across c.loop-rows.segs.items (from_lines map c.args.pixel Up 0 (map.width + 1)) (boundary_of map c.args.pixel) c.loop-rows.rows (map.height + 1) on c.loop-rows.invariant.whole full.1)))
