@@ -69,14 +69,6 @@ fn text_of(
     let ordered = in_order(alloc, chains, &numbers)?;
     let count = stroke_cut(alloc, strokes, &job.bit, depth, pitch)?;
     let number = strokes.len() as u32;
-    let text = write_strokes(
-        alloc,
-        job,
-        number,
-        depth,
-        &ordered,
-        count.cut,
-        count.points,
-    )?;
+    let text = write_strokes(alloc, job, number, depth, &ordered, count.cut, count.points)?;
     Ok(text)
 }
