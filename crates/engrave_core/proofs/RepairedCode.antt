@@ -8,6 +8,7 @@ use Rattle.code_repair.specs.declared.fault.RepairFault.TheVariants.{TooMany}
 use Rattle.engrave_model.specs.Drawing.{edges_of}
 use Rattle.gcode_text.specs.Moves.{moves_of}
 use Rattle.gcode_text.specs.Visits.{visit_moves, visits_text}
+use Rattle.gcode_text.specs.declared.modal.TheConstants.{MOST_MOVES}
 use Rattle.gouge_checker.proofs.Safety.{clear_code_is_safe}
 use Rattle.gouge_checker.specs.Verdict.{IsVerdict}
 use Rattle.gouge_checker.specs.declared.verdict.Verdict.TheVariants.{Clear}
@@ -62,6 +63,16 @@ mended units bit safe feed loops moves visits changed text is worth lines read =
         unchanged = (λ none. unchanged.0 (worth.unchanged.0 none), λ called. worth.unchanged.1 (unchanged.1 called));
       };
     }
+
+-- the same, as the code has it: of the visits that were given to be written
+pub written : (units : Units) (bit : Cone) (safe feed : ℕ) (loops : List (List GridPoint)) (moves : List LineMove) (visits : List GridPlace) (changed : ℕ) (text : List ℕ) (given : List GridPlace)
+    → IsRepair (edges_of loops) bit safe moves visits changed → IsRepaired (edges_of loops) bit moves (visit_moves safe visits) changed
+    → given ≡ visits → length visits ≤ MOST_MOVES → text ≡ visits_text units safe feed changed (length moves) given
+    → (length given ≤ MOST_MOVES → moves_of units text ≡ Ok (visit_moves safe given)) → IsRepairText units bit safe feed loops moves text
+written units bit safe feed loops moves visits changed text given is worth given_is few text_is read =
+    mended units bit safe feed loops moves visits changed text is worth
+    (text_is ∙ ap (λ vs. visits_text units safe feed changed (length moves) vs) given_is)
+    (subst (λ vs. moves_of units text ≡ Ok (visit_moves safe vs)) given_is (read (subst (λ vs. length vs ≤ MOST_MOVES) (sym given_is) few)))
 
 repaired_of : (files : Files) (shape : DrawingWords) (code : List ℕ) (bit : Cone) (safe feed : ℕ) (text : List ℕ) (drawing : ReadDrawing) (moves : List LineMove)
     → IsDrawingOf files shape (Ok drawing) → stored_code files shape.units code ≡ Ok moves
