@@ -217,6 +217,19 @@ def street_places():
         yield *places, -generator.randint(500, 1500)
 
 
+def slanted_places():
+    """Between octagons at 45 degrees, up and down in turn: the sum and the difference of the coordinates are odd halves of the pitch."""
+    generator = random.Random(SEED)
+    half = 5 * PITCH
+    most = FIELD_ROWS - 10
+    turned = [half, half]
+    for axis in itertools.cycle((0, 1)):
+        room = most - abs(turned[1 - axis]) // half
+        turned[axis] = half * (2 * generator.randint(-room // 2, room // 2 - 1) + 1)
+        x, y = (turned[0] - turned[1]) // 2, (turned[0] + turned[1]) // 2
+        yield x + generator.randint(-100, 100), y + generator.randint(-100, 100), -generator.randint(200, 500)
+
+
 def scratch_places(count):
     """A walk all over the name plate by steps of at most 0.2 mm along each axis, at most 0.4 mm deep."""
     generator = random.Random(SEED)
@@ -235,6 +248,10 @@ def field_rounds(count):
 
 def field_streets(count):
     return itertools.islice(street_places(), count)
+
+
+def field_slants(count):
+    return itertools.islice(slanted_places(), count)
 
 
 def number(tenths):

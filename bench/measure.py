@@ -39,6 +39,8 @@ MOVES_SIZES = (10_000, 100_000, 1_000_000)
 RING_SIZES = (1_000, 10_000, 100_000)
 SQUARE_ROWS = (32, 64, 128)
 MANY_MOVES = 100_000
+# Each of them has a box that holds thousands of edges, all of which the yardstick tests.
+SLANTED_MOVES = 10_000
 # A small drawing, for a million moves; and how many rows of 256 squares there are, for 16,384 and 131,072 loose sides.
 SMALL_RING, SQUARES_ROWS = 100, (16, 128)
 
@@ -240,9 +242,9 @@ def ring_case(folder, kind, edges):
     return check_case(folder, kind, MANY_MOVES, ring_file(folder, edges), edges, edges)
 
 
-def field_case(folder, kind, stride):
+def field_case(folder, kind, stride, moves=MANY_MOVES):
     edges = make_inputs.field_edges(stride)
-    return check_case(folder, kind, MANY_MOVES, field_file(folder, stride), edges, edges)
+    return check_case(folder, kind, moves, field_file(folder, stride), edges, edges)
 
 
 def many_case(folder, moves):
@@ -326,6 +328,7 @@ RING_SHORT = Kind("ring_short", make_inputs.short_places, "200")
 RING_LONG = Kind("ring_long", make_inputs.long_places, "8191")
 FIELD_SHORT = Kind("field_short", make_inputs.field_rounds, "200")
 FIELD_LONG = Kind("field_long", make_inputs.field_streets, "8191")
+FIELD_SLANTED = Kind("field_slanted", make_inputs.field_slants, "8191")
 SCRATCHES = Kind("scratches", make_inputs.scratch_places, "300")
 
 
@@ -338,6 +341,7 @@ def series(folder, count):
     yield "`check`, ring, long moves", (ring_case(folder, RING_LONG, edges) for edges in rings)
     yield "`check`, field, short moves", (field_case(folder, FIELD_SHORT, stride) for stride in strides)
     yield "`check`, field, long moves", (field_case(folder, FIELD_LONG, stride) for stride in strides)
+    yield "`check`, field, slanted moves", (field_case(folder, FIELD_SLANTED, stride, SLANTED_MOVES) for stride in strides)
     yield "`check`, field, many moves", (many_case(folder, moves) for moves in MOVES_SIZES[:count])
     yield "`check`, small drawing", (million_case(folder) for _ in range(count // 3))
     yield "`flatten`, DXF, lines", (lines_case(folder, rows, False) for rows in SQUARES_ROWS[:count])

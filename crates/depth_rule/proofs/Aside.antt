@@ -1,4 +1,4 @@
--- An edge whose box misses another box is beyond one side of it; so it limits no disc within the box, and no move.
+-- An edge whose box misses another box is beyond one side of it; so it limits no disc within the box.
 use Rattle.std.specs.Prelude.{if◌then◌else◌, int_le, ◌&&◌}
 use Rattle.std.proofs.Common.{◌≡◌, ◌⊎◌, inl, inr, Bool, true, false, refl, ℕ, ◌*◌, ◌≤◌, ℤ, pos, neg_ℤ, ◌+ℤ◌, ◌-ℤ◌, ◌*ℤ◌, ◌≤ℤ◌, ◌<ℤ◌, [], ◌∷◌, arith, ap}
 use Rattle.std.proofs.lemmas.Int.{ints, by_lt_z}
@@ -13,9 +13,7 @@ use Rattle.evenodd_region.proofs.Bounds.{along, edge_beyond}
 use Rattle.lane_kernels.specs.Boxes.{is_met, overlap}
 use Rattle.lane_kernels.specs.declared.boxes.Rect.{Rect}
 use Rattle.segment_grid.specs.Near.{box_of, lesser, greater}
-use Rattle.swept_move.specs.Beside.{AreBeside}
 use Rattle.swept_move.proofs.Boxes.{far_by}
-use Rattle.depth_rule.specs.Around.{IsAround}
 
 -- ---- boxes that miss each other
 
@@ -66,17 +64,17 @@ missed_is_beyond q e =
 -- ---- discs
 
 -- a direction along an axis
-abbrev IsFlat : ℤ → ℤ → Type 0
+abbrev pub IsFlat : ℤ → ℤ → Type 0
 IsFlat α β = (x y : ℤ) → square (along α β x y) ≤ℤ (square x +ℤ square y)
 
-flat_across : (s : ℤ) → s *ℤ s ≡ pos 1 → IsFlat s (pos 0)
+pub flat_across : (s : ℤ) → s *ℤ s ≡ pos 1 → IsFlat s (pos 0)
 flat_across s unit x y =
     let e = ring (s ∷ x ∷ y ∷ []) ((V 0 ⊗ V 1 ⊕ K (pos 0) ⊗ V 2) ⊗ (V 0 ⊗ V 1 ⊕ K (pos 0) ⊗ V 2)) ((V 0 ⊗ V 0) ⊗ (V 1 ⊗ V 1)) tt in
     let f = ap (λ u. u *ℤ (x *ℤ x)) unit in
     let g = square_nonneg y in
     omega (arith, ints)
 
-flat_up : (s : ℤ) → s *ℤ s ≡ pos 1 → IsFlat (pos 0) s
+pub flat_up : (s : ℤ) → s *ℤ s ≡ pos 1 → IsFlat (pos 0) s
 flat_up s unit x y =
     let e = ring (s ∷ x ∷ y ∷ []) ((K (pos 0) ⊗ V 1 ⊕ V 0 ⊗ V 2) ⊗ (K (pos 0) ⊗ V 1 ⊕ V 0 ⊗ V 2)) ((V 0 ⊗ V 0) ⊗ (V 2 ⊗ V 2)) tt in
     let f = ap (λ u. u *ℤ (y *ℤ y)) unit in
@@ -88,7 +86,7 @@ abbrev pub IsFarOff : RationalPoint → ℤ → Seg → Type 0
 IsFarOff v r e = (w : RationalPoint) → IsBetween e.a e.b w → (square r *ℤ square w.over) ≤ℤ scaled_distance v w
 
 -- so it is where the edge lies, in some direction, so much farther than v
-far_beyond : (α β : ℤ) → IsFlat α β → (v : RationalPoint) (r c : ℤ) (e : Seg) → pos 0 ≤ℤ r → (along α β v.x v.y +ℤ r) ≤ℤ (v.over *ℤ c)
+pub far_beyond : (α β : ℤ) → IsFlat α β → (v : RationalPoint) (r c : ℤ) (e : Seg) → pos 0 ≤ℤ r → (along α β v.x v.y +ℤ r) ≤ℤ (v.over *ℤ c)
     → c ≤ℤ along α β e.a.x e.a.y → c ≤ℤ along α β e.b.x e.b.y → IsFarOff v r e
 far_beyond α β flat v r c e some before at_a at_b w on =
     let o = w.over in
@@ -175,16 +173,3 @@ missed_is_clear cone p z r q wide round e missed w on inside =
     let m = ring (pos cone.sd ∷ x ∷ y ∷ []) ((V 1 ⊗ V 1 ⊕ V 2 ⊗ V 2) ⊗ ((V 0 ⊗ K (pos 1)) ⊗ (V 0 ⊗ K (pos 1)))) ((V 0 ⊗ V 0) ⊗ (V 1 ⊗ V 1 ⊕ V 2 ⊗ V 2)) tt in
     let n = ring (pos cone.sn ∷ pos z ∷ o ∷ []) (((V 0 ⊗ V 1) ⊗ (V 0 ⊗ V 1)) ⊗ ((K (pos 1) ⊗ V 2) ⊗ (K (pos 1) ⊗ V 2))) ((V 0 ⊗ V 0) ⊗ ((V 2 ⊗ V 1) ⊗ (V 2 ⊗ V 1))) tt in
     omega (arith, ints)
-
--- ---- moves
-
-pub outside_is_beside : (f g r low high a b : ℤ) → IsAround f g r low high → AreOutside low high a b → AreBeside r f g (pos 10 *ℤ a) (pos 10 *ℤ b)
-outside_is_beside f g r low high a b around out =
-    let low_from = around.low_from in
-    let low_to = around.low_to in
-    let high_from = around.high_from in
-    let high_to = around.high_to in
-    elim out [
-      | inl above ↦ (let h = above.0 in let k = above.1 in inl (record { a_c = omega (arith, ints); a_d = omega (arith, ints); b_c = omega (arith, ints); b_d = omega (arith, ints) }))
-      | inr below ↦ (let h = below.0 in let k = below.1 in inr (record { a_c = omega (arith, ints); a_d = omega (arith, ints); b_c = omega (arith, ints); b_d = omega (arith, ints) }))
-    ]

@@ -21,12 +21,12 @@ module _ (Good Bad : ℕ → Type 0) (edges : List Seg) where
     pub bad : IfSome least (λ e. (e < length edges) × Bad e)
     pub done : Done (λ k. Good k ⊎ AtMost least k) edges left
 
-  pub least_begun : (q : Rect) (ns all : List ℕ) → AreNear edges q ns → all ≡ ns
-      → ((k : ℕ) → ((d : Seg) → is_met q (box_of (slice_index_or edges k d)) ≡ false) → Good k) → IsLeastSoFar None all
-  least_begun q ns all near is missed =
-      subst (IsLeastSoFar None) (sym is) (record {
-        bad = tt;
-        done = near_done q edges ns near (λ k. Good k ⊎ AtMost None k) (λ k there miss. inl (missed k miss));
+  pub least_begun : (least : Option ℕ) (q : Rect) (ns all : List ℕ) → IfSome least (λ e. (e < length edges) × Bad e) → AreNear edges q ns → all ≡ ns
+      → ((k : ℕ) → ((d : Seg) → is_met q (box_of (slice_index_or edges k d)) ≡ false) → Good k) → IsLeastSoFar least all
+  least_begun least q ns all bad near is missed =
+      subst (IsLeastSoFar least) (sym is) (record {
+        bad = bad;
+        done = near_done q edges ns near (λ k. Good k ⊎ AtMost least k) (λ k there miss. inl (missed k miss));
       })
 
   found_is : (least found : Option ℕ) (e : ℕ) → e < length edges → (found ≡ least) ⊎ ((found ≡ Some e) × Bad e)
@@ -43,9 +43,13 @@ module _ (Good Bad : ℕ → Type 0) (edges : List Seg) where
         (λ k. ⊎_elim inl (λ below. inr (keeps k below))) judged far.done;
   }
 
+  -- at the end each edge is good, or not below the least bad one
+  pub least_judged : (least : Option ℕ) (left : List ℕ) → left ≡ [] → IsLeastSoFar least left → (k : ℕ) → k < length edges → Good k ⊎ AtMost least k
+  least_judged least left none far k there = done_end (λ k. Good k ⊎ AtMost least k) edges left none far.done k there
+
   pub least_none : (left : List ℕ) → left ≡ [] → IsLeastSoFar None left → (k : ℕ) → k < length edges → Good k
   least_none left none far k there =
-      ⊎_elim (λ good. good) (λ never. absurd never) (done_end (λ k. Good k ⊎ AtMost None k) edges left none far.done k there)
+      ⊎_elim (λ good. good) (λ never. absurd never) (least_judged None left none far k there)
 
   pub least_some : (e : ℕ) (left : List ℕ) → left ≡ [] → IsLeastSoFar (Some e) left → IsLeastBad Good Bad edges e
   least_some e left none far =
@@ -55,5 +59,5 @@ module _ (Good Bad : ℕ → Type 0) (edges : List Seg) where
         bad = far.bad.1;
         before = λ k below.
             ⊎_elim (λ good. good) (λ above. let l : e ≤ k = above in absurd (omega arith))
-            (done_end (λ k. Good k ⊎ AtMost (Some e) k) edges left none far.done k (omega arith));
+            (least_judged (Some e) left none far k (omega arith));
       }

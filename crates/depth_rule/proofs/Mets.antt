@@ -17,16 +17,16 @@ module _ (edges : List Seg) (cone : Cone) (mv : Move) where
   IsPassedAt k = (d : Seg) → PassesEdge cone mv (slice_index_or edges k d)
 
   -- and not against the edge of this one
-  abbrev pub IsMetAt : ℕ → Type 0
-  IsMetAt k = (d : Seg) → ¬ PassesEdge cone mv (slice_index_or edges k d)
+  abbrev pub IsMetHere : ℕ → Type 0
+  IsMetHere k = (d : Seg) → ¬ PassesEdge cone mv (slice_index_or edges k d)
 
-  first_is_met : (e : ℕ) → IsLeastBad IsPassedAt IsMetAt edges e → IsFirstMet edges cone mv e
+  first_is_met : (e : ℕ) → IsLeastBad IsPassedAt IsMetHere edges e → IsFirstMet edges cone mv e
   first_is_met e least = record { there = least.there; fails = least.bad; before = λ k d below. least.before k below d }
 
-  pub first_of_all : (least : Option ℕ) (left : List ℕ) → left ≡ [] → IsLeastSoFar IsPassedAt IsMetAt edges least left
+  pub first_of_all : (least : Option ℕ) (left : List ℕ) → left ≡ [] → IsLeastSoFar IsPassedAt IsMetHere edges least left
       → IfSome least (IsFirstMet edges cone mv) × IfNone least (All (PassesEdge cone mv) edges)
-  first_of_all None left over far = (tt, λ k d there. least_none IsPassedAt IsMetAt edges left over far k there d)
-  first_of_all (Some e) left over far = (first_is_met e (least_some IsPassedAt IsMetAt edges e left over far), tt)
+  first_of_all None left over far = (tt, λ k d there. least_none IsPassedAt IsMetHere edges left over far k there d)
+  first_of_all (Some e) left over far = (first_is_met e (least_some IsPassedAt IsMetHere edges e left over far), tt)
 
 -- a clear move that goes below the surface meets nothing
 pub met_is_nothing : (edges : List Seg) (cone : Cone) (mv : Move) (met : Met) → IsDeep mv → IsMet edges cone mv met → IsClear edges cone mv → met ≡ Nothing

@@ -8,4 +8,5 @@ pub mod Kept
 pub mod Law
 pub mod Least
 pub mod Met
+pub mod Parts
 pub mod Ticks

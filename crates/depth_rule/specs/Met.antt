@@ -16,6 +16,10 @@ pub record IsFirstMet (edges : List Seg) (cone : Cone) (mv : Move) (e : ℕ) : T
   pub fails : (d : Seg) → ¬ PassesEdge cone mv (slice_index_or edges e d)
   pub before : (k : ℕ) (d : Seg) → k < e → PassesEdge cone mv (slice_index_or edges k d)
 
+-- the move doesn't pass the tests against the edge of this number
+abbrev pub IsMetAt : List Seg → Cone → Move → (e : ℕ) → Type 0
+IsMetAt edges cone mv e = (e < length edges) × ((d : Seg) → ¬ PassesEdge cone mv (slice_index_or edges e d))
+
 -- the move passes the tests against every edge, and its first end below the surface isn't inside
 pub record IsOutside (edges : List Seg) (cone : Cone) (mv : Move) : Type 0 where
   pub passes : All (PassesEdge cone mv) edges

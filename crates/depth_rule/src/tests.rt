@@ -1,6 +1,7 @@
 // A plate and a lug beside it: their bounding box, rows of points, and moves over them; and the first edges that cross.
 use crate::clear::is_clear;
 use crate::distance::clearance;
+use crate::met::{Met, first_met};
 use crate::scene::Scene;
 use loops_text::Drawing;
 use plane_exact::{Bit, Move, Point, Spot};
@@ -29,10 +30,10 @@ fn plate(alloc: Global) -> Result<Scene, Fail> {
     scene_of(alloc, &[&PLATE, &LUG])
 }
 
-// The spot over (x, 350) at the height h, in tenths of a grid unit.
-fn spot(x: i32, h: i32) -> Result<Spot, Fail> {
-    if 0 <= x && x <= 3000 && -1000 <= h && h <= 1000 {
-        Ok(Spot { x, y: 350, h })
+// The spot over (x, y) at the height h, in tenths of a grid unit.
+fn spot(x: i32, y: i32, h: i32) -> Result<Spot, Fail> {
+    if 0 <= x && x <= 30_000 && 0 <= y && y <= 30_000 && -1000 <= h && h <= 1000 {
+        Ok(Spot { x, y, h })
     } else {
         Err(Fail::from("a spot"))
     }
@@ -60,10 +61,85 @@ fn a_move_is_clear_until_the_bit_touches_an_edge(rt: HostRuntime) -> Result<(), 
         (500, -351, false),
     ] {
         let mv = Move {
-            from: spot(400, h)?,
-            to: spot(to, h)?,
+            from: spot(400, 350, h)?,
+            to: spot(to, 350, h)?,
         };
         assert_eq!(rt; is_clear(&scene, &bit, &mv), want, "to {to} at {h}");
+    }
+    Ok(())
+}
+
+// Where the holes of the sieve begin along each axis.
+const PLACES: [i64; 15] = [
+    90, 290, 490, 690, 890, 1090, 1290, 1490, 1690, 1890, 2090, 2290, 2490, 2690, 2890,
+];
+
+// A plate of 3000 by 3000 with 15 by 15 square holes of 20 by 20, whose middles are 200 apart, from (100, 100) on.
+fn sieve(alloc: Global) -> Result<Scene, Fail> {
+    let mut drawing = Drawing::empty(alloc);
+    push_square(alloc, &mut drawing, 0, 0, 3000)?;
+    for y in PLACES {
+        for x in PLACES {
+            push_square(alloc, &mut drawing, x, y, 20)?;
+        }
+    }
+    Ok(Scene::new(alloc, drawing)?)
+}
+
+// Adds the square of this side from (x, y) on.
+fn push_square(
+    alloc: Global,
+    drawing: &mut Drawing,
+    x: i64,
+    y: i64,
+    side: i64,
+) -> Result<(), Fail> {
+    let mut points = Vec::new(alloc);
+    for (right, up) in [(0, 0), (side, 0), (side, side), (0, side)] {
+        let x = x.checked_add(right).ok_or("x")?;
+        let y = y.checked_add(up).ok_or("y")?;
+        points.push(Point::new(x, y).ok_or("a corner")?)?;
+    }
+    drawing.push_loop(&points)?;
+    Ok(())
+}
+
+// What the move meets, where it may be asked.
+fn met_by(scene: &Scene, bit: &Bit, mv: &Move) -> Option<Met> {
+    if mv.is_deep() && !mv.is_too_deep(bit) {
+        Some(first_met(scene, bit, mv))
+    } else {
+        None
+    }
+}
+
+#[test]
+fn a_long_slanted_move_meets_the_least_edge(rt: HostRuntime) -> Result<(), Fail> {
+    let scene = sieve(rt.alloc())?;
+    let bit = Bit::new(1, 1, 100).ok_or("bit")?;
+    // The way between the holes keeps 40 times the root of 2, some 56.57, from their corners. The first that it meets in the second
+    // row has the edges 64 to 67; before its start there is one in the first row, 58.3 away.
+    let (low, high) = ((600, 1600), (28_400, 29_400));
+    for (from, to, h, want) in [
+        (low, high, -565, Met::Nothing),
+        (low, high, -566, Met::Edge(64)),
+        (high, low, -566, Met::Edge(64)),
+        // Through two corners of the hole of the last row and column alone, whose edges are from 900 on.
+        ((28_300, 29_700), (29_700, 28_300), -10, Met::Edge(900)),
+        // From the plate's lower left corner on.
+        ((0, 0), high, -1, Met::Edge(0)),
+        // Along the lower side, 30 away from it, and 60 from the first row.
+        ((300, 300), (29_700, 300), -300, Met::Nothing),
+    ] {
+        let mv = Move {
+            from: spot(from.0, from.1, h)?,
+            to: spot(to.0, to.1, h)?,
+        };
+        assert_eq!(rt;
+            met_by(&scene, &bit, &mv),
+            Some(want),
+            "from {from:?} at {h}"
+        );
     }
     Ok(())
 }

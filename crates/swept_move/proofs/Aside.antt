@@ -18,7 +18,7 @@ use Rattle.swept_move.proofs.Sweeps.{HasHit, crossing_is, pass_of, whole_finish,
 use Rattle.swept_move.proofs.Touching.{crossing_met, hit_or_passes_apart}
 
 -- how far the bit reaches between two depths, of which either may be negative
-reaches : (sn sd r z descent S N : ℤ) → (sn *ℤ z) ≤ℤ (sd *ℤ r) → (sn *ℤ (z +ℤ descent)) ≤ℤ (sd *ℤ r) → pos 0 ≤ℤ S → S ≤ℤ N → (sn *ℤ deep z descent S N) ≤ℤ (sd *ℤ (N *ℤ r))
+pub reaches : (sn sd r z descent S N : ℤ) → (sn *ℤ z) ≤ℤ (sd *ℤ r) → (sn *ℤ (z +ℤ descent)) ≤ℤ (sd *ℤ r) → pos 0 ≤ℤ S → S ≤ℤ N → (sn *ℤ deep z descent S N) ≤ℤ (sd *ℤ (N *ℤ r))
 reaches sn sd r z descent S N first last start finish =
     let p = times_le (N -ℤ S) (sn *ℤ z) (sd *ℤ r) (omega (arith, ints)) first in
     let q = times_le S (sn *ℤ (z +ℤ descent)) (sd *ℤ r) start last in
@@ -78,7 +78,7 @@ module _ (cone : Cone) (sw : Sweep) (first last : End) (e : Seg) (r : ℤ) (is :
   beside_passes = elim (hit_or_passes_apart cone sw first last e is) [ inl hit ↦ absurd (no_hit hit) | inr passes ↦ passes no_crossing ]
 
 -- the depth of a height is at least the height below the surface
-reach_least : (sn sd r : ℕ) (h : ℤ) → sn * depth_of h ≤ sd * r → (pos sn *ℤ neg_ℤ h) ≤ℤ (pos sd *ℤ pos r)
+pub reach_least : (sn sd r : ℕ) (h : ℤ) → sn * depth_of h ≤ sd * r → (pos sn *ℤ neg_ℤ h) ≤ℤ (pos sd *ℤ pos r)
 reach_least sn sd r h narrow =
     let p = times_le (pos sn) (neg_ℤ h) (pos (depth_of h)) (omega (arith, ints)) (depth_least h) in
     omega (arith, ints)

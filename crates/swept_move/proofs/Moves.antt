@@ -29,7 +29,7 @@ in_tenths k n w o a b on =
     ∙ ring (k ∷ n ∷ o ∷ a ∷ b ∷ []) (K (pos 10) ⊗ (V 2 ⊗ (V 1 ⊗ V 3 ⊕ V 0 ⊗ (V 4 ⊖ V 3))))
     (V 2 ⊗ (V 1 ⊗ (K (pos 10) ⊗ V 3) ⊕ V 0 ⊗ (K (pos 10) ⊗ V 4 ⊖ K (pos 10) ⊗ V 3))) tt
 
-on_tenfold : (e : Seg) (w : RationalPoint) → IsBetween e.a e.b w → IsBetween (tenfold_edge e).a (tenfold_edge e).b (tenfold w)
+pub on_tenfold : (e : Seg) (w : RationalPoint) → IsBetween e.a e.b w → IsBetween (tenfold_edge e).a (tenfold_edge e).b (tenfold w)
 on_tenfold e w on = record {
   at = on.at;
   across = in_tenths on.at.k on.at.n w.x w.over e.a.x e.b.x on.across;

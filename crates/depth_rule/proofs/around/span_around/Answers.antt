@@ -3,8 +3,7 @@ use mir.Syntax.{w32}
 use Rattle.std.specs.Int.{int_div_euclid, int_max, int_min}
 use Rattle.std.proofs.Common.{◌≡◌, ℕ, ◌≤◌, ℤ, pos, negsuc, ◌+ℤ◌, ◌-ℤ◌, ◌*ℤ◌, ◌≤ℤ◌, ◌<ℤ◌, FitsSigned, to_z, of_z, arith, lit<, refl, ap, subst, sym, ◌∙◌}
 use Rattle.std.proofs.lemmas.Int.{ints, clamps}
-use Rattle.integer_algebra.specs.Ranges.{IsWithin}
-use Rattle.plane_exact.specs.Heights.{IsFineCoordinate}
+use Rattle.integer_algebra.specs.Ranges.{IsUpTo, IsWithin}
 use Rattle.swept_move.proofs.Widths.{fits}
 use Rattle.depth_rule.proofs.around.span_around.Goals as goal
 
@@ -12,26 +11,30 @@ use Rattle.depth_rule.proofs.around.span_around.Goals as goal
 abbrev kept : ℤ → ℤ
 kept z = to_z w32 (of_z w32 z)
 
--- the quotient by ten, rounded down
-record IsTenth (z q : ℤ) : Type 0 where
-  low : (pos 10 *ℤ q) ≤ℤ z
-  high : z <ℤ (pos 10 *ℤ q +ℤ pos 10)
+-- a place in 640ths
+abbrev IsPlace : ℤ → Type 0
+IsPlace z = IsUpTo (pos 41943040) z
 
-tenth : (z : ℤ) → IsTenth z (int_div_euclid z (pos 10))
-tenth (pos n) = record { low = omega (arith, ints); high = omega (arith, ints) }
-tenth (negsuc n) = record { low = omega (arith, ints); high = omega (arith, ints) }
+-- the quotient by 640, rounded down
+record IsDivided (z q : ℤ) : Type 0 where
+  low : (pos 640 *ℤ q) ≤ℤ z
+  high : z <ℤ (pos 640 *ℤ q +ℤ pos 640)
 
--- of a number within 500,000 the code's quotient
-divided : (z y q : ℤ) → kept z ≡ y → IsWithin (negsuc 499999) (pos 500000) y → q ≡ int_div_euclid (kept z) (pos 10) → IsTenth y (kept q)
+divides : (z : ℤ) → IsDivided z (int_div_euclid z (pos 640))
+divides (pos n) = record { low = omega (arith, ints); high = omega (arith, ints) }
+divides (negsuc n) = record { low = omega (arith, ints); high = omega (arith, ints) }
+
+-- of a number within 100,000,000 the code's quotient
+divided : (z y q : ℤ) → kept z ≡ y → IsWithin (negsuc 99999999) (pos 100000000) y → q ≡ int_div_euclid (kept z) (pos 640) → IsDivided y (kept q)
 divided z y q same within is =
-    let t = tenth y in
+    let t = divides y in
     let low = t.low in
     let high = t.high in
     let least = within.low in
     let most = within.high in
-    let value : q ≡ int_div_euclid y (pos 10) = is ∙ ap (λ z. int_div_euclid z (pos 10)) same in
-    let plain : kept q ≡ int_div_euclid y (pos 10) = omega (arith, ints) in
-    subst (IsTenth y) (sym plain) t
+    let value : q ≡ int_div_euclid y (pos 640) = is ∙ ap (λ z. int_div_euclid z (pos 640)) same in
+    let plain : kept q ≡ int_div_euclid y (pos 640) = omega (arith, ints) in
+    subst (IsDivided y) (sym plain) t
 
 -- two coordinates, read from what the code keeps, with the lesser and the greater of them
 record AreOrdered (f g l m : ℤ) : Type 0 where
@@ -39,10 +42,10 @@ record AreOrdered (f g l m : ℤ) : Type 0 where
   low_g : l ≤ℤ g
   high_f : f ≤ℤ m
   high_g : g ≤ℤ m
-  on_low : IsFineCoordinate l
-  on_high : IsFineCoordinate m
+  on_low : IsPlace l
+  on_high : IsPlace m
 
-ordered : (f g l m : ℤ) → IsFineCoordinate f → IsFineCoordinate g → l ≡ int_min (kept f) (kept g) → m ≡ int_max (kept f) (kept g) → AreOrdered f g l m
+ordered : (f g l m : ℤ) → IsPlace f → IsPlace g → l ≡ int_min (kept f) (kept g) → m ≡ int_max (kept f) (kept g) → AreOrdered f g l m
 ordered f g l m on_f on_g least greatest =
     let f_low = on_f.low in
     let f_high = on_f.high in
@@ -59,7 +62,7 @@ ordered f g l m on_f on_g least greatest =
       on_high = record { low = omega (arith, ints, clamps); high = omega (arith, ints, clamps) };
     }
 
-low_side : (m q : ℤ) (r : ℕ) → IsFineCoordinate m → r ≤ 81910 → q ≡ int_div_euclid (kept (kept m -ℤ to_z w32 r)) (pos 10) → (pos 10 *ℤ kept q +ℤ pos r) ≤ℤ m
+low_side : (m q : ℤ) (r : ℕ) → IsPlace m → r ≤ 5242240 → q ≡ int_div_euclid (kept (kept m -ℤ to_z w32 r)) (pos 640) → (pos 640 *ℤ kept q +ℤ pos r) ≤ℤ m
 low_side m q r on small is =
     let low = on.low in
     let high = on.high in
@@ -67,24 +70,24 @@ low_side m q r on small is =
     let under = t.low in
     omega (arith, ints)
 
-high_side : (m q : ℤ) (r : ℕ) → IsFineCoordinate m → r ≤ 81910 → q ≡ int_div_euclid (kept (kept (kept m +ℤ to_z w32 r) +ℤ pos 9)) (pos 10) → (m +ℤ pos r) ≤ℤ (pos 10 *ℤ kept q)
+high_side : (m q : ℤ) (r : ℕ) → IsPlace m → r ≤ 5242240 → q ≡ int_div_euclid (kept (kept (kept m +ℤ to_z w32 r) +ℤ pos 639)) (pos 640) → (m +ℤ pos r) ≤ℤ (pos 640 *ℤ kept q)
 high_side m q r on small is =
     let low = on.low in
     let high = on.high in
-    let t = divided (kept (kept m +ℤ to_z w32 r) +ℤ pos 9) (m +ℤ pos r +ℤ pos 9) q (omega (arith, ints)) (record { low = omega (arith, ints); high = omega (arith, ints) }) is in
+    let t = divided (kept (kept m +ℤ to_z w32 r) +ℤ pos 639) (m +ℤ pos r +ℤ pos 639) q (omega (arith, ints)) (record { low = omega (arith, ints); high = omega (arith, ints) }) is in
     let over = t.high in
     omega (arith, ints)
 
-raised_fits : (m : ℤ) (r : ℕ) → IsFineCoordinate m → r ≤ 81910 → FitsSigned w32 (kept (kept m +ℤ to_z w32 r) +ℤ pos 9)
+raised_fits : (m : ℤ) (r : ℕ) → IsPlace m → r ≤ 5242240 → FitsSigned w32 (kept (kept m +ℤ to_z w32 r) +ℤ pos 639)
 raised_fits m r on small =
     let low = on.low in
     let high = on.high in
     let sum : kept (kept m +ℤ to_z w32 r) ≡ m +ℤ pos r = omega (arith, ints) in
-    fits w32 {m = 500000} {a = m +ℤ pos r +ℤ pos 9}
-    (record { value = ap (λ z. z +ℤ pos 9) sum; within = record { low = omega (arith, ints); high = omega (arith, ints) } }) (lit< tt)
+    fits w32 {m = 100000000} {a = m +ℤ pos r +ℤ pos 639}
+    (record { value = ap (λ z. z +ℤ pos 639) sum; within = record { low = omega (arith, ints); high = omega (arith, ints) } }) (lit< tt)
 
-raised_least : (f g m : ℤ) (r : ℕ) → IsFineCoordinate f → IsFineCoordinate g → m ≡ int_max (kept f) (kept g) → r ≤ 81910
-    → FitsSigned w32 (kept (kept m +ℤ to_z w32 r) +ℤ pos 9)
+raised_least : (f g m : ℤ) (r : ℕ) → IsPlace f → IsPlace g → m ≡ int_max (kept f) (kept g) → r ≤ 5242240
+    → FitsSigned w32 (kept (kept m +ℤ to_z w32 r) +ℤ pos 639)
 raised_least f g m r on_f on_g greatest = raised_fits m r (ordered f g (int_min (kept f) (kept g)) m on_f on_g refl greatest).on_high
 
 pub overflow_add-max-2 : goal.overflow_add-max-2

@@ -16,7 +16,7 @@ loop-j-init c =
     let near = subst (λ q. AreNear edges q c.near-j-items.result) c.box_of.ensures c.near-j-items.ensures in
     record {
       ahead = begun_ahead edges _ c.near-j-items.result _ near all;
-      far = least_begun (IsClearBehind edges i) (IsCrossedBehind edges i) edges _ c.near-j-items.result _ near all (clear_missed edges i c.edge-first.result c.edge-first.ensures.edge);
+      far = least_begun (IsClearBehind edges i) (IsCrossedBehind edges i) edges _ _ c.near-j-items.result _ tt near all (clear_missed edges i c.edge-first.result c.edge-first.ensures.edge);
     }
 
 pub edge-requires : goal.edge-requires
