@@ -110,11 +110,17 @@ fn a_box_between_two_multiples_has_no_point(rt: HostRuntime) -> Result<(), Fail>
     Ok(())
 }
 
+// 16 grid units apart they are 4095 by 4095 points, which is just taken, and 15 apart 4369 by 4369.
 #[test]
-fn a_report_on_the_whole_grid_has_too_many_points(rt: HostRuntime) -> Result<(), Fail> {
+fn a_report_on_the_whole_grid_may_have_so_many_points(rt: HostRuntime) -> Result<(), Fail> {
     let grid = square(rt.alloc(), -32_768, 32_767)?;
-    let report = uncut(rt.alloc(), &grid, &cone()?, &[], 1);
-    assert!(rt; matches!(report, Err(CoverFault::TooManyPoints)));
+    let bit = Bit::new(1, 1, 1).ok_or("bit")?;
+    let report = uncut(rt.alloc(), &grid, &bit, &[], 16)?;
+    assert_eq!(rt; (report.left, report.drawing), (16_769_025, 16_769_025));
+    for pitch in [15, 1] {
+        let report = uncut(rt.alloc(), &grid, &bit, &[], pitch);
+        assert!(rt; matches!(report, Err(CoverFault::TooManyPoints)));
+    }
     Ok(())
 }
 

@@ -343,32 +343,77 @@ fn m_numbers(rt: HostRuntime) -> Result<(), Fail> {
     Ok(())
 }
 
-// A line that begins so, and has this byte up to its length.
-fn line_of(alloc: Global, head: &str, byte: u8, len: usize) -> Result<Vec<u8>, AllocError> {
+// Cut off at any byte, a program is what stands there, or its last word or comment isn't whole.
+#[test]
+fn programs_that_break_off(rt: HostRuntime) -> Result<(), Fail> {
+    let code = b"X1Y2Z0\nG1Z-1(a)\n";
+    let down = "2: 1000 2000 0 > 1000 2000 -1000; ";
+    let wants = [
+        "",
+        "line 1 Number",
+        "",
+        "line 1 Number",
+        "",
+        "line 1 Number",
+        "",
+        "",
+        "line 2 Number",
+        "",
+        "line 2 Number",
+        "line 2 Number",
+        down,
+        "line 2 OpenComment",
+        "line 2 OpenComment",
+        down,
+        down,
+    ];
+    for (cut, want) in wants.iter().enumerate() {
+        assert!(rt; cut <= code.len());
+        let answer = read_cut(&rt, rt.alloc(), Units::Mm100, &code[..cut], 0)?;
+        assert_eq!(rt;
+            text_of(rt.alloc(), answer)?.as_str(),
+            *want,
+            "cut at {cut}"
+        );
+    }
+    Ok(())
+}
+
+// A line that begins so, has this byte up to its length, and ends with another one.
+fn line_of(
+    alloc: Global,
+    head: &str,
+    byte: u8,
+    len: usize,
+    last: u8,
+) -> Result<Vec<u8>, AllocError> {
     let mut line = Vec::new(alloc);
     line.extend_from_slice(head.as_bytes())?;
-    for _ in head.len()..len {
+    for _ in head.len() + 1..len {
         line.push(byte)?;
     }
+    line.push(last)?;
     Ok(line)
 }
 
 #[test]
 fn long_lines(rt: HostRuntime) -> Result<(), Fail> {
     let rows = [
-        ("X1", b' ', 1024, ""),
-        ("X1", b' ', 1025, "line 1 LongLine"),
-        ("(", b'a', 1024, "line 1 OpenComment"),
-        ("(", b'a', 1025, "line 1 LongLine"),
-        ("Q", b'Q', 1025, "line 1 LongLine"),
-        ("X0;", b'(', 1024, ""),
-        ("F0", b'0', 1024, ""),
-        ("F.", b'0', 1024, ""),
-        ("X.", b'0', 1024, ""),
+        ("X1", b' ', 1024, b' ', ""),
+        ("X1", b' ', 1025, b' ', "line 1 LongLine"),
+        ("(", b'a', 1024, b')', ""),
+        ("(", b'a', 1025, b')', "line 1 LongLine"),
+        ("(", b'a', 1024, b'a', "line 1 OpenComment"),
+        ("(", b'a', 1025, b'a', "line 1 LongLine"),
+        ("Q", b'Q', 1025, b'Q', "line 1 LongLine"),
+        ("X0;", b'(', 1024, b'(', ""),
+        ("F0", b'0', 1024, b'0', ""),
+        ("F.", b'0', 1024, b'0', ""),
+        ("X.", b'0', 1024, b'0', ""),
     ];
     let alloc = rt.alloc();
-    for (head, byte, len, want) in rows {
-        let mut line = line_of(alloc, head, byte, len)?;
+    for (head, byte, len, last, want) in rows {
+        let mut line = line_of(alloc, head, byte, len, last)?;
         expect_at_cuts(&rt, alloc, Units::Mm100, line.as_slice(), 1020, want)?;
         line.push(b'\r')?;
         expect_at_cuts(&rt, alloc, Units::Mm100, line.as_slice(), 1020, want)?;

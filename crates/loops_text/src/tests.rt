@@ -68,21 +68,53 @@ fn described(alloc: Global, answer: Result<Drawing, LoopsFault>) -> Result<Vec<u
     }
 }
 
+// Cut off at any byte, a text is what stands there, or its last point or its loop isn't whole.
+#[test]
+fn tells_what_stands_before_a_cut(rt: HostRuntime) -> Result<(), Fail> {
+    let text = b"0,0 9,0 0,9\n";
+    let wants = [
+        "",
+        "0 Syntax",
+        "0 Syntax",
+        "0 Short",
+        "0 Short",
+        "4 Syntax",
+        "4 Syntax",
+        "0,0 9,0\n",
+        "0,0 9,0\n",
+        "8 Syntax",
+        "8 Syntax",
+        "0,0 9,0 0,9\n",
+        "0,0 9,0 0,9\n",
+    ];
+    for (cut, want) in wants.iter().enumerate() {
+        assert!(rt; cut <= text.len());
+        let answer = described(rt.alloc(), read_loops(rt.alloc(), &text[..cut]))?;
+        assert_eq!(rt; answer.as_slice(), want.as_bytes(), "cut at {cut}");
+    }
+    Ok(())
+}
+
+// In loops of four; one point more is refused where it stands, in the last line as on one of its own.
 #[test]
 fn takes_131072_points(rt: HostRuntime) -> Result<(), Fail> {
     let mut text = Vec::new(rt.alloc());
-    for _ in 0..65_536 {
-        text.extend_from_slice(b"0,0 1,0\n")?;
+    for _ in 0..32_768 {
+        text.extend_from_slice(b"0,0 1,0 1,1 0,1\n")?;
     }
     assert!(rt; text.len() < 1_000_000);
     assert_eq!(rt; edges(read_loops(rt.alloc(), &text)), 131_072);
-    text.extend_from_slice(b"5,5 6,6\n")?;
-    assert!(rt; text.len() < 1_000_000);
     let fault = LoopsFault {
         at: 524_288,
         kind: LoopsKind::TooMany,
     };
-    assert_eq!(rt; read_loops(rt.alloc(), &text).err(), Some(fault));
+    for before in [b'\n', b' '] {
+        text.truncate(524_287);
+        text.push(before)?;
+        text.extend_from_slice(b"5,5 6,6\n")?;
+        assert!(rt; text.len() < 1_000_000);
+        assert_eq!(rt; read_loops(rt.alloc(), &text).err(), Some(fault));
+    }
     Ok(())
 }
 

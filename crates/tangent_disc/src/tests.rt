@@ -154,9 +154,13 @@ fn faults_of_contacts(rt: HostRuntime) -> Result<(), Fail> {
     assert_eq!(rt; listed.len(), 32_772);
     let fault = contacts(rt.alloc(), &whole, 7).err();
     assert_eq!(rt; fault, Some(ContactFault::StepTooFine(0)));
-    for _ in 0..32 {
+    // 31 of these squares have 1,015,932 contacts, and 32 more than are taken.
+    for _ in 0..30 {
         add_loop(rt.alloc(), &mut whole, &WHOLE)?;
     }
+    let listed = contacts(rt.alloc(), &whole, 8).ok().ok_or("contacts")?;
+    assert_eq!(rt; listed.len(), 1_015_932);
+    add_loop(rt.alloc(), &mut whole, &WHOLE)?;
     let fault = contacts(rt.alloc(), &whole, 8).err();
     assert_eq!(rt; fault, Some(ContactFault::TooMany));
     Ok(())

@@ -124,6 +124,35 @@ fn tells_the_first_faulty_line(rt: HostRuntime) -> Result<(), Fail> {
     Ok(())
 }
 
+// Cut off at any byte, a font is what stands there, or its last line isn't whole.
+#[test]
+fn tells_what_stands_before_a_cut(rt: HostRuntime) -> Result<(), Fail> {
+    let text = b"[a]\nL 1,2,3,4\n";
+    let wants = [
+        "none",
+        "1 Syntax",
+        "1 Syntax",
+        "",
+        "",
+        "2 Syntax",
+        "2 Syntax",
+        "2 Syntax",
+        "2 Syntax",
+        "2 Syntax",
+        "2 Syntax",
+        "2 Syntax",
+        "2 Number",
+        "1000000,2000000 3000000,4000000;",
+        "1000000,2000000 3000000,4000000;",
+    ];
+    for (cut, want) in wants.iter().enumerate() {
+        assert!(rt; cut <= text.len());
+        let answer = described(rt.alloc(), read_font(rt.alloc(), &text[..cut]), 'a')?;
+        assert_eq!(rt; answer.as_str(), *want, "cut at {cut}");
+    }
+    Ok(())
+}
+
 // A straight letter and a round one.
 const SMALL: &[u8] = b"# a small font
 [I] 4

@@ -1,5 +1,6 @@
 // Devices: those that fail, those that never do, the longest file, and files of the host.
 
+use super::carve::{CARVED, SMALL};
 use super::{FIRST, NEVER, SQUARE, listed, run, shelf};
 use engrave_core::{Outcome, engrave, status};
 use shop_port::{HostDepot, MemSink, SureDepot, SureSink};
@@ -50,6 +51,32 @@ fn failing_devices_are_reported_apart_from_wrong_inputs(rt: HostRuntime) -> Resu
     }
     let (status, written) = run(rt.alloc(), FIRST, (SQUARE, ""), 4, (NEVER, 2))?;
     assert_eq!(rt; (status, written.as_str()), (6, "dept"));
+    Ok(())
+}
+
+#[test]
+fn each_call_that_fails_is_answered(rt: HostRuntime) -> Result<(), Fail> {
+    let alloc = rt.alloc();
+    // The 281 bytes of the carved text go out in 29 calls, and what went out before the one that fails stays.
+    let words = "carve --drawing=d --bit=1/1 --rmax=2 --step=2 --pitch=1";
+    for call in 1..30usize {
+        let (status, text) = run(alloc, words, (SMALL, ""), 10, (NEVER, call as u64))?;
+        assert_eq!(rt; (status, text.len()), (6, 10 * (call - 1)), "{call}");
+        assert!(rt; CARVED.starts_with(text.as_str()), "{call}");
+    }
+    let (status, text) = run(alloc, words, (SMALL, ""), 10, (NEVER, 30))?;
+    assert_eq!(rt; (status, text.as_str()), (0, CARVED));
+    // The drawing's 15 bytes, the program's 20, and the end of each are a call of their own.
+    let words = "check --drawing=d --code=c --bit=1/1 --rmax=2";
+    let files = (SMALL, "G0 X0 Y0 Z1\nG1 Z0\nM2");
+    for call in 1..38u64 {
+        for (writes, want) in [(NEVER, (5, "read fault\n")), (1, (6, ""))] {
+            let (status, text) = run(alloc, words, files, 1, (call, writes))?;
+            assert_eq!(rt; (status, text.as_str()), want, "{call}, {writes}");
+        }
+    }
+    let (status, text) = run(alloc, words, files, 1, (38, NEVER))?;
+    assert_eq!(rt; (status, text.as_str()), (0, "clear 1 moves\n"));
     Ok(())
 }
 

@@ -4,7 +4,7 @@ ghost use Rattle.plane_exact.specs.Nodes.{AreWithinLimits};
 ghost use Rattle.gcode_text.specs.Path.{IsJob};
 
 use super::{MOST, text_of};
-use crate::{Job, chain_moves, read_code, write_code, write_report, write_strokes};
+use crate::{Job, Subject, chain_moves, read_code, write_code, write_report, write_strokes};
 use grid_num::Units;
 use plane_exact::{Bit, Chain, Node, Point, Run, Uncut};
 use std::alloc::Global;
@@ -116,6 +116,7 @@ fn lines_of_a_report(rt: HostRuntime) -> Result<(), Fail> {
     ];
     let mut text = Vec::new(alloc);
     write_report(
+        Subject::Uncut,
         &uncut(alloc, &runs, u64::MAX - 1, u64::MAX)?,
         "> ",
         "\n",
