@@ -2,7 +2,8 @@
 
 import math
 
-from definitions import MOST_DEPTH, Bit, Job, Move, Spot, edges_of, nearest_point, passes_edge, pieces, squared_distance
+from definitions import MOST_DEPTH, WAYS, Bit, Job, Move, Spot, edges_of, nearest_point, passes_edge, pieces, squared_distance
+from flats import FlatJob
 
 LEAST, MOST = -32768, 32767
 
@@ -274,14 +275,17 @@ def carving_step(rng, edges):
 MOST_MILLED = 400
 
 
+def points_on_lines(loops, way, over):
+    """How many points there are at most on the lines of a pocket."""
+    xs, ys = zip(*(p for loop in loops for p in loop)) if loops else ((0,), (0,))
+    sides = [max(xs) - min(xs) + 1, max(ys) - min(ys) + 1]
+    return sum(sides[axis] * (sides[1 - axis] // over + 1) for axis in WAYS[way])
+
+
 def milling(rng, loops):
     """The way of a pocket, and a distance of its lines that gives few points on them: where there is none, no pocket."""
-    xs, ys = zip(*(p for loop in loops for p in loop)) if loops else ((0,), (0,))
-    wide, high = max(xs) - min(xs) + 1, max(ys) - min(ys) + 1
-    points = {"none": lambda over: 0, "x": lambda over: wide * (high // over + 1), "y": lambda over: high * (wide // over + 1)}
-    points["both"] = lambda over: points["x"](over) + points["y"](over)
     way, overs = rng.choice(["none", "none", "x", "y", "both", "both"]), [1, 1, 2, 3, rng.randint(1, 40), rng.randint(1, 8191)]
-    few = [over for over in overs if points[way](over) <= MOST_MILLED]
+    few = [over for over in overs if points_on_lines(loops, way, over) <= MOST_MILLED]
     return (way, rng.choice(few)) if few else ("none", rng.choice(overs))
 
 
@@ -317,6 +321,27 @@ def carved(rng, loops, reach):
     if way != "none":
         limit = rng.choice([min(limit, 400), flat_limit(rng, cone, reach), flat_limit(rng, cone, reach)])
     return loops, Job(rng.choice(list(UNITS)), cone, limit, carving_step(rng, edges_of(loops)), safe, feed, way, over)
+
+
+# Drawings for a flat bit: a square, to which a bit's width at the floor is added, and points that lie just on the rim of what it sweeps;
+# one in which the axis fits just on one row, between rows that the report asks; and a row that a corner of a hole parts.
+WORKED_FLATS = [
+    ([[(0, 0), (20, 0), (20, 20), (0, 20)]], FlatJob("mm100", Bit(1, 1, 9), 2, 3, 5, 200, 500, 1, "both")),
+    ([[(-3, 1), (17, 1), (17, 11), (-3, 11)]], FlatJob("mm10", Bit(3, 2, 3), 2, 2, 3, 1, 1, 2, "x")),
+    ([[(0, 0), (24, 0), (24, 12), (0, 12)], [(12, 6), (13, 10), (11, 10)]], FlatJob("in1000", Bit(1, 2, 1), 2, 1, 3, 7, 900, 1, "x")),
+]
+
+
+def flat_job(rng, loops, reach, reported):
+    """What the floor of the drawing is milled for, by lines with few points; None where all have many."""
+    cone, radius = bit(rng, reach)._replace(rmax=small_radius(rng, min(reach, 20))), rng.choice([1, 1, 2, rng.randint(1, max(1, reach // 3))])
+    way, overs = rng.choice(["x", "y", "both"]), [1, 1, 2, 3, rng.randint(1, 40), rng.randint(1, 8191)]
+    few = [over for over in overs if points_on_lines(loops, way, over) <= MOST_MILLED]
+    if not few:
+        return None
+    limit = rng.choice([flat_limit(rng, cone, reach)] * 6 + [1, 400])
+    units, safe, feed = rng.choice(list(UNITS)), rng.choice([200, 1, MOST]), rng.randint(1, 10_000)
+    return FlatJob(units, cone, limit, radius, rng.choice(few), safe, feed, reported, way)
 
 
 def box(edges, margin):

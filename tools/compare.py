@@ -20,6 +20,7 @@ from pathlib import Path
 
 import cases
 import definitions
+import flats
 import form_cases
 import forms
 import joining
@@ -27,7 +28,7 @@ import sampling
 import strokes
 import trial
 from definitions import MOST_DEPTH, Bit
-from wrong_definitions import WRONG
+from wrong_definitions import WRONG, WRONG_FLATS
 from wrong_forms import WRONG_FORMS
 
 BUILT = Path(__file__).resolve().parent.parent / "crates" / "engrave_cli" / "out" / "engrave_cli"
@@ -40,9 +41,9 @@ HOW_TO_BUILD = "(cd crates/engrave_cli && rt run -- probe --drawing=data/plate.l
 SLIM = Bit(1, 2000, 1)
 LONGEST_FOR_SLIM = 2000
 
-# how many depths, codes that are checked, codes whose moves are listed, steps, discs of a step, and carved programs, for each
-# drawing; and to how many codes that are checked there is one that is covered
-DEPTHS, CODES, LISTED, STEPS, DISCS, CARVED, PER_COVERED = 12, 14, 2, 2, 6, 1, 3
+# how many depths, codes that are checked, codes whose moves are listed, steps, discs of a step, carved programs, and those of flat bits,
+# for each drawing; and to how many codes that are checked there is one that is covered
+DEPTHS, CODES, LISTED, STEPS, DISCS, CARVED, FLATS, PER_COVERED = 12, 14, 2, 2, 6, 1, 2, 3
 
 # how many files in each form there are for each drawing; how often a drawing that crosses itself is made anew, and how many of a
 # hundred of these are taken; and of how many cells there is a trial
@@ -54,7 +55,9 @@ ASKED = 3000
 SPARED, WITHIN = "clear: edges of which no sampled point is removed", "clear: removed points that are inside"
 CARVED_MOVES, CARVED_CLEAR = "carve: the moves of the program", "carve: the program is called clear"
 REPAIRED_CLEAR = "repair: the program is called clear"
+FLAT, FLAT_MOVES, TARGET = "flat", "flat: the moves of the program", "flat: removed material that is in the target"
 COMPARED = ["crossing", "taken", "inside", "depth", "contacts", "discs", "moves", "check", "cover", "repair", REPAIRED_CLEAR, SPARED, WITHIN, "carve", CARVED_MOVES, CARVED_CLEAR]
+COMPARED += [FLAT, FLAT_MOVES, TARGET]
 ENGRAVED = "strokes"
 AGAIN, ALIKE = "flatten: what was written, again", "the same answer for a file and what it is flattened to"
 COMPARED += [f"flatten: {form}" for form in form_cases.MAKERS] + [AGAIN, ALIKE, ENGRAVED, "trial"]
@@ -63,8 +66,8 @@ COMPARED += [f"flatten: {form}" for form in form_cases.MAKERS] + [AGAIN, ALIKE, 
 class Comparison:
     """One drawing, with points and codes, against the program."""
 
-    def __init__(self, program, folder, seed, number, forms_alone):
-        self.rng, self.forms_alone = random.Random(f"{seed}/{number}"), forms_alone
+    def __init__(self, program, folder, seed, number, alone):
+        self.rng, self.alone = random.Random(f"{seed}/{number}"), alone
         self.program, self.number, self.folder = program, number, folder / f"case{number}"
         self.folder.mkdir()
         self.compared, self.differing, self.spread, self.differences = Counter(), Counter(), Counter(), []
@@ -227,6 +230,50 @@ class Comparison:
         words = ["check", *common, f"--code={path}", f"--units={job.units}"]
         self.agree(CARVED_CLEAR, (0, f"clear {len(moves)} moves\n"), self.run(*words), *words)
 
+    def compare_flats(self):
+        for number in range(FLATS):
+            job = cases.flat_job(self.rng, self.loops, self.reach, cases.pitch(self.rng, self.loops))
+            if job:
+                self.compare_flat(number, self.cross, self.loops, job)
+        if self.number == 0:
+            for number, (loops, job) in enumerate(cases.WORKED_FLATS, FLATS):
+                self.compare_flat(number, [], loops, job)
+
+    def compare_flat(self, number, cross, loops, job):
+        """What is written is due, is read as its moves, and removes nothing but the target."""
+        drawing = self.write(f"milled{number}.loops", cases.loops_text(self.rng, loops))
+        words = ["flat", f"--drawing={drawing}", *cross, f"--bit={job.bit.sn}/{job.bit.sd}", f"--rmax={job.bit.rmax}", f"--radius={job.radius}"]
+        words += [f"--pitch={job.pitch}", *self.flat_options(job)]
+        due, got = (0, flats.text_of(loops, job)), self.run(*words)
+        self.agree(FLAT, due, got, *words)
+        chains = flats.chains_of(loops, job)
+        self.spread_of_flat(due[1], chains)
+        if got[0] == 0:
+            path, moves = self.write(f"milled{number}.ngc", got[1]), definitions.code_moves(job, definitions.ordered(chains))
+            words = ["moves", f"--code={path}", f"--units={job.units}"]
+            self.agree(FLAT_MOVES, (0, moves_text(moves)), self.run(*words), *words)
+            self.sample_milled(loops, job, moves, words)
+
+    def flat_options(self, job):
+        """The other options, some of them left out where they are what holds then."""
+        options = {"limit": (job.limit, MOST_DEPTH), "safe": (job.safe, 200), "feed": (job.feed, 500), "units": (job.units, "mm100")}
+        options |= {"pocket": (job.way, "x"), "over": (job.over, 50)}
+        return [f"--{name}={value}" for name, (value, usual) in options.items() if value != usual or self.rng.random() < 0.5]
+
+    def sample_milled(self, loops, job, moves, words):
+        """All sampled material that the flat bit removes is in the target."""
+        edges = definitions.edges_of(loops)
+        for mv in self.rng.sample(moves, min(len(moves), 6)):
+            for s, w, t in sampling.milled_material(self.rng, job.radius, mv, edges):
+                self.agree(TARGET, True, sampling.is_in_target(edges, job.bit, flats.floor_of(job), w, t), *words, job, mv, s, w, t)
+
+    def spread_of_flat(self, text, chains):
+        self.spread["flat: " + ("no chain" if not chains else "one chain" if len(chains) == 1 else "several chains")] += 1
+        self.spread["flat, in all: runs of one point"] += sum(len(chain) == 1 for chain in chains)
+        self.spread["flat, in all: longer runs"] += sum(len(chain) > 1 for chain in chains)
+        left, floor = map(int, re.findall(r"\(floor ([0-9]+) of ([0-9]+)\)", text)[0])
+        self.spread["flat: " + ("no floor" if floor == 0 else "nothing left" if left == 0 else "all left" if left == floor else "some left")] += 1
+
     def compare_covered(self, bit, words, moves):
         pitch = cases.pitch(self.rng, self.loops)
         report = definitions.uncut(self.loops, bit, moves, pitch)
@@ -312,7 +359,7 @@ class Comparison:
     def compare_crossing(self):
         """Each command refuses a drawing that crosses itself, before it looks for the G-code program; by the even-odd rule it is taken."""
         bit, asked = ["--bit=1/1", "--rmax=100"], self.rng.choice([[], [], ["--cross=refuse"]])
-        commands = {"flatten": [], "probe": [*bit, "--at=0,0"], "contacts": ["--step=7", "--rmax=9"], "carve": [*bit, "--step=7"]}
+        commands = {"flatten": [], "probe": [*bit, "--at=0,0"], "contacts": ["--step=7", "--rmax=9"], "carve": [*bit, "--step=7"], "flat": [*bit, "--radius=1"]}
         for name, options in {**commands, "check": [*bit, "--code=none"], "cover": [*bit, "--code=none"], "repair": [*bit, "--code=none"]}.items():
             words = [name, f"--drawing={self.drawing}", *asked, *options]
             self.agree("crossing", (3, "input cross %d,%d\n" % self.crossing), self.run(*words), *words)
@@ -372,12 +419,15 @@ class Comparison:
             self.agree(ALIKE, self.run(*command, f"--drawing={flat}", *cross), self.run(*command, *options), *command, *options, flat)
 
     def whole(self):
-        if not self.forms_alone:
+        if not self.alone:
             if self.crossing:
                 self.compare_crossing()
             self.compare_drawing()
             self.compare_listed()
-        self.compare_formed()
+        if self.alone in (None, "flats"):
+            self.compare_flats()
+        if self.alone in (None, "forms"):
+            self.compare_formed()
         return self.done()
 
     def compare_drawing(self):
@@ -444,6 +494,8 @@ def take_wrong(kind):
     """Puts the wrong definition where the right one stands."""
     if kind in WRONG:
         setattr(definitions, *WRONG[kind])
+    elif kind in WRONG_FLATS:
+        setattr(flats, *WRONG_FLATS[kind])
     elif kind:
         name, wrong = WRONG_FORMS[kind]
         setattr(joining if hasattr(joining, name) else forms, name, wrong)
@@ -467,7 +519,7 @@ def results(options, folder, kind=None):
     pool = concurrent.futures.ProcessPoolExecutor(options.workers, initializer=take_wrong, initargs=(kind,))
     numbers = range(options.cases) if options.case is None else [options.case]
     try:
-        alone = options.forms or kind in WRONG_FORMS
+        alone = "forms" if options.forms or kind in WRONG_FORMS else "flats" if options.flats or kind in WRONG_FLATS else None
         each = pool.map(compare_case, ((options.program, folder, options.seed, n, alone) for n in numbers), chunksize=4)
         # Last, since the definitions take so long for them.
         trials = [] if alone or kind or options.case is not None else [pool.submit(compare_trial, options.program, cells) for cells in TRIALS]
@@ -500,7 +552,7 @@ def compare(options, folder):
 
 def find_out_wrong(options, folder):
     """Prints in which case each wrong definition was found out, and gives whether all were."""
-    kinds = {"all": [*WRONG, *WRONG_FORMS], "forms": list(WRONG_FORMS)}.get(options.wrong, [options.wrong])
+    kinds = {"all": [*WRONG, *WRONG_FLATS, *WRONG_FORMS], "forms": list(WRONG_FORMS), "flats": list(WRONG_FLATS)}.get(options.wrong, [options.wrong])
     all_found = True
     for kind in kinds:
         found = next(((n, less) for n, _, less, _, _ in results(options, folder, kind) if less), None)
@@ -521,7 +573,8 @@ def read_options():
     parser.add_argument("--program", type=Path, default=BUILT)
     parser.add_argument("--workers", type=int, default=2, help="how many processes")
     parser.add_argument("--forms", action="store_true", help="files in the four forms alone")
-    parser.add_argument("--wrong", choices=["all", "forms", *WRONG, *WRONG_FORMS], help="take a wrong definition, which must be found out")
+    parser.add_argument("--flats", action="store_true", help="flat bits alone")
+    parser.add_argument("--wrong", choices=["all", "forms", "flats", *WRONG, *WRONG_FLATS, *WRONG_FORMS], help="take a wrong definition, which must be found out")
     return parser.parse_args()
 
 

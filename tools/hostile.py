@@ -1,11 +1,12 @@
 """Feeds the built program truncated, huge, binary and adversarial words, drawings of each form and code, and checks how each run ends.
 
-    python3 tools/hostile.py [--runs N] [--seeds N ..] [--minutes N] [--program PATH] [--huge]      (on Linux)
+    python3 tools/hostile.py [--runs N] [--seeds N ..] [--minutes N] [--program PATH] [--patience N] [--huge]      (on Linux)
 
 Each run has to end with a status and the text that the manual gives it, with nothing on standard error, within the stated
 memory and time. What is due is written in hostile_rows.py and hostile_large.py, or read apart from the program by
 hostile_expected.py; else the form of the text is judged alone. It prints a line for each part; the files of a run that ends otherwise
-are kept. With --huge the largest inputs are run instead, which takes some gigabytes of disk. The programs are started by spawner.py,
+are kept. On a machine that does other work, --patience gives each run so many times the stated seconds. With --huge the largest inputs
+are run instead, which takes some gigabytes of disk. The programs are started by spawner.py,
 which is small: the memory that is printed is the program's, but at least that script's, which is printed first.
 """
 
@@ -96,6 +97,7 @@ def cut_cases():
         for end in range(len(code)):
             yield due_case("cut codes", moves, b"", code[:end])
             yield due_case("cut codes", check, rows.ANGLE, code[:end])
+            yield due_case("cut codes", rows.REPAIR.encode().split(), rows.ANGLE, code[:end])
     for words in (rows.CONTACTS, rows.CARVE):
         for end in range(len(rows.PLATE)):
             yield due_case("cut drawings", words.encode().split(), rows.PLATE[:end], b"")
@@ -103,8 +105,10 @@ def cut_cases():
         words = f"{rows.FLATTEN} {options}".encode().split()
         for end in range(len(drawing)):
             yield due_case("cut forms", words, drawing[:end], b"")
+            if options != rows.PBM:
+                yield due_case("cut forms", rows.STROKES.replace(rows.DXF, options).encode().split(), drawing[:end], b"")
     listed = rows.PROBE + " --limit=70 --form=loops", rows.MOVES + " --units=mm1000"
-    for words in (rows.CONTACTS, rows.CARVE + " --safe=1 --feed=1", *listed, rows.CHECK, rows.COVER + " --pitch=7"):
+    for words in (rows.CONTACTS, rows.CARVE + " --safe=1 --feed=1", rows.FLOOR + " --pocket=both", *listed, rows.CHECK, rows.COVER + " --pitch=7", rows.REPAIR, rows.STROKES):
         for end in range(len(words)):
             yield due_case("cut words", words[:end].encode().split(), rows.SQUARE, rows.DOWN)
 
@@ -176,13 +180,13 @@ def random_case(chance):
         return formed_case(chance)
     if kind < 0.55:
         return grammar_case(chance)
-    reader = chance.choice(("drawings", "codes", "checks", "contacts", "carvings", "covers", "words"))
+    reader = chance.choice(("drawings", "codes", "checks", "contacts", "carvings", "covers", "repairs", "words"))
     drawing, code = chance.choice(rows.DRAWING_BASES), chance.choice(rows.CODE_BASES)
     words = chance.choice(rows.WORD_BASES[reader]).encode()
     either = chance.random() < 0.5
-    if reader in ("drawings", "contacts", "carvings") or reader in ("checks", "covers") and either:
+    if reader in ("drawings", "contacts", "carvings") or reader in ("checks", "covers", "repairs") and either:
         drawing = changed(chance, drawing, rows.DRAWING_TOKENS)
-    if reader == "codes" or reader in ("checks", "covers") and not either:
+    if reader == "codes" or reader in ("checks", "covers", "repairs") and not either:
         code = changed(chance, code, rows.CODE_TOKENS)
     if reader == "words":
         words = changed(chance, words, rows.WORD_TOKENS).replace(b"\0", b"")
@@ -205,11 +209,11 @@ def cases_of(options):
         yield random_case(chances[number % len(chances)])
 
 
-def enter(folder, program):
+def enter(folder, program, patience):
     """Makes the folder in which a worker runs its cases, with the names that aren't plain files."""
-    global PROGRAM, PIPE, KEPT, SPAWNER
+    global PROGRAM, PIPE, KEPT, SPAWNER, PATIENCE
     KEPT = []
-    PROGRAM = program
+    PROGRAM, PATIENCE = program, patience
     os.chdir(tempfile.mkdtemp(dir=folder))
     SPAWNER = Spawner()
     os.mkdir("folder")
@@ -241,7 +245,7 @@ def count_in(file, text):
 
 def reported(case):
     """How many rows and points a report may have at most, where the command makes one."""
-    if case.words[:1] not in ([b"cover"], [b"carve"], [b"strokes"]):
+    if case.words[:1] not in ([b"cover"], [b"carve"], [b"strokes"], [b"flat"]):
         return 0, 0
     rows_up = 65_536 // number_in(case, b"pitch", 10) + 1
     return rows_up, min(rows_up**2, hostile_expected.MOST_REPORTED)
@@ -255,12 +259,13 @@ def number_in(case, name, usual):
 
 def milled(case):
     """How many points there may be at most on the lines of a pocket."""
-    if not any(b"pocket" in word for word in case.words):
+    if case.words[:1] not in ([b"carve"], [b"flat"]) or case.words[0] == b"carve" and not any(b"pocket" in word for word in case.words):
         return 0
     numbers = [int(text) for piece, _ in case.files.get("d", []) for text in re.findall(rb"-?[0-9]{1,5}", piece)]
     is_loops = not any(b"form" in word for word in case.words)
     wide = min(max(numbers) - min(numbers) + 1, 65_536) if is_loops and numbers else 65_536
-    return 2 * wide * (wide // number_in(case, b"over", 1) + 1)
+    over = number_in(case, b"over", 1) if any(b"over" in word for word in case.words) else 50
+    return 2 * wide * (wide // over + 1)
 
 
 def bounds(case):
@@ -278,12 +283,19 @@ def bounds(case):
     # A repair keeps as much again for each move.
     memory = rows.BYTES_A_BYTE * size + rows.BYTES_A_MOVE * moves * (2 if case.words[:1] == [b"repair"] else 1) + rows.BYTES_A_WORD * len(case.words)
     memory += rows.BYTES_A_CONTACT * contacts
+    drawing = case.files.get("d", [])
+    memory += rows.BYTES_A_VERTEX * count_in(drawing, b"VERTEX") if form == b"dxf" else 0
+    glyphs, elements = (count_in(drawing, text) if form == b"cxf" else 0 for text in (b"[", b","))
+    memory += rows.BYTES_A_GLYPH * glyphs + rows.BYTES_AN_ELEMENT * elements / 3
     reading = rows.SECONDS_A_MEBIBYTE * size / MEBIBYTE + rows.SECONDS_A_MOVE * moves
     planning = rows.SECONDS_A_CONTACT * contacts + rows.SECONDS_A_NODE * nodes
-    planning += rows.SECONDS_A_MILLED * milled(case) if case.words[:1] == [b"carve"] else 0
+    planning += rows.SECONDS_A_MILLED * milled(case)
+    if case.words[:1] == [b"flat"]:
+        nodes = min(milled(case), 2 * hostile_expected.MOST_CHAINS)
+        planning += rows.SECONDS_A_NODE * nodes + rows.SECONDS_A_FLOOR * reported(case)[1]
     planning += rows.SECONDS_A_CELL * 80 if case.words[:1] == [b"trial"] else 0
     rows_up, dots = reported(case)
-    planning += rows.SECONDS_A_SEGMENT * segments
+    planning += rows.SECONDS_A_SEGMENT * segments + rows.SECONDS_AN_ELEMENT * elements / 3 * max(map(len, case.words), default=0)
     strokes = segments if case.words[:1] == [b"strokes"] else 0
     reporting = rows.SECONDS_A_POINT * dots + rows.SECONDS_A_ROW * rows_up * (moves + nodes + strokes)
     return rows.SECONDS + reading + planning + reporting + rows.SECONDS_A_PAIR * pairs, rows.MEBIBYTES + memory / MEBIBYTE
@@ -291,7 +303,7 @@ def bounds(case):
 
 def lines_of(case, status):
     """How many lines a carved program or a report has; where it wasn't written, how many nodes or points it may have had."""
-    if case.words[:1] not in ([b"carve"], [b"cover"], [b"repair"], [b"strokes"]) or status not in (0, 3, 7):
+    if case.words[:1] not in ([b"carve"], [b"cover"], [b"repair"], [b"strokes"], [b"flat"]) or status not in (0, 3, 7):
         return 0
     if case.words[:1] == [b"cover"] and status:
         return reported(case)[1] // 2
@@ -365,7 +377,7 @@ def is_in_form(case, status):
         return line == b""
     if (command, status) == (b"flatten", 0):
         return line == b""
-    if status == 0 and command in (b"carve", b"repair", b"strokes"):
+    if status == 0 and command in (b"carve", b"repair", b"strokes", b"flat"):
         return line == b"M2\n" and listed >= 5
     if (command, status) == (b"cover", 0):
         return form.fullmatch(line) is not None
@@ -375,11 +387,13 @@ def is_in_form(case, status):
 
 
 def is_text(due):
-    """Whether the text is the one that is due; of a long one, whether it ends so."""
+    """Whether the text is the one that is due; of a long one of which only the end is said, whether it ends so."""
+    size = os.path.getsize("text")
     with open("text", "rb") as text:
-        long = text.seek(0, os.SEEK_END) > MEBIBYTE
-        text.seek(-MEBIBYTE if long else 0, os.SEEK_END if long else os.SEEK_SET)
-        return text.read().endswith(b"\n" + due) if long else text.read() == due
+        if size <= max(MEBIBYTE, len(due)):
+            return text.read() == due
+        text.seek(size - MEBIBYTE)
+        return text.read().endswith(b"\n" + due)
 
 
 def wrong_with(case, ended, most_seconds, most_mebibytes):
@@ -405,6 +419,7 @@ def perform(case):
     """Runs a case, and gives its part, what it took, and what is wrong, if anything."""
     write_files(case.files)
     most_seconds, most_mebibytes = bounds(case)
+    most_seconds *= PATIENCE
     ended = run(case, most_seconds)
     most_mebibytes += rows.BYTES_A_LINE * lines_of(case, ended.status) / MEBIBYTE
     most_mebibytes = min(most_mebibytes, rows.MOST_MEBIBYTES)
@@ -430,6 +445,7 @@ def main():
     parser.add_argument("--seeds", type=int, nargs="+", default=[1, 2], help="the seeds of the random ones, in turn")
     parser.add_argument("--minutes", type=float, default=60, help="after so many, no further run is begun")
     parser.add_argument("--program", default=BUILT, help="the program")
+    parser.add_argument("--patience", type=float, default=1, help="how many times the stated seconds a run may take")
     parser.add_argument("--huge", action="store_true", help="the largest inputs instead")
     options = parser.parse_args()
     if not os.access(options.program, os.X_OK):
@@ -438,7 +454,7 @@ def main():
     parts, faults, began = {}, [], time.monotonic()
     print(f"a program that does nothing: {floor():.0f} MiB")
     with tempfile.TemporaryDirectory(prefix="hostile_") as folder:
-        settings = (folder, os.path.abspath(options.program))
+        settings = (folder, os.path.abspath(options.program), options.patience)
         with multiprocessing.get_context("fork").Pool(1 if options.huge else 2, enter, settings) as pool:
             for part, ended, wrong in pool.imap_unordered(perform, cases_of(options), 1 if options.huge else 4):
                 runs, wrongs, seconds, mebibytes = parts.get(part, (0, 0, 0, 0))

@@ -20,7 +20,7 @@ WAYS = b"none x y both"
 # The options that are numbers: what stands between the two where there are two, and what each ranges over.
 NUMBERS = {b"at": (b",", -32_768, 32_767), b"bit": (b"/", 1, 2000), b"rmax": (b"", 1, 8191), b"limit": (b"", 1, 32_767)}
 NUMBERS |= {b"step": (b"", 1, 32_767), b"safe": (b"", 1, 32_767), b"feed": (b"", 1, 10_000), b"pitch": (b"", 1, 32_767)}
-NUMBERS |= {b"depth": (b"", 1, 32_767), b"over": (b"", 1, 8191), b"count": (b"", 1, 80), **{name: (b"", *ends) for name, ends in SHAPE.items()}}
+NUMBERS |= {b"depth": (b"", 1, 32_767), b"over": (b"", 1, 8191), b"radius": (b"", 1, 8191), b"count": (b"", 1, 80), **{name: (b"", *ends) for name, ends in SHAPE.items()}}
 DRAWN = b"drawing text " + b" ".join([*SHAPE, *SHAPE_WORDS])
 OPTIONS = {
     b"flatten": (DRAWN, b"drawing"),
@@ -29,6 +29,7 @@ OPTIONS = {
     b"moves": (b"code units", b"code"),
     b"check": (DRAWN + b" bit rmax code", b"drawing bit rmax code"),
     b"carve": (DRAWN + b" bit rmax step limit safe feed pitch pocket over", b"drawing bit rmax step"),
+    b"flat": (DRAWN + b" bit rmax radius limit over safe feed pitch pocket", b"drawing bit rmax radius"),
     b"cover": (DRAWN + b" bit rmax code pitch", b"drawing bit rmax code"),
     b"strokes": (DRAWN + b" bit rmax depth safe feed pitch", b"drawing bit rmax depth"),
     b"repair": (DRAWN + b" bit rmax code safe feed", b"drawing bit rmax code"),
@@ -80,6 +81,8 @@ def request(words):
     if any(name in values and values[name] not in known.split() for name, known in {**SHAPE_WORDS, b"pocket": WAYS}.items()):
         raise Refusal(2, b"usage\n")
     if b"text" in values and not 1 <= len(values[b"text"].decode()) <= 200 or values.get(b"form") == b"cxf" and b"text" not in values:
+        raise Refusal(2, b"usage\n")
+    if command == b"flat" and values.get(b"pocket") == b"none":
         raise Refusal(2, b"usage\n")
     if command == b"strokes":
         (sn, sd), (rmax,), (depth,) = taken[b"bit"], taken[b"rmax"], taken[b"depth"]
@@ -153,12 +156,12 @@ def check_box(strokes, taken):
             raise Refusal(3, b"input too many points\n")
 
 
-def milled(edges, values, taken):
+def milled(edges, way, taken):
     """How many points there are on the lines of a pocket, where there is one."""
     over, sides = taken.get(b"over", [50])[0], [[a[axis] for a, _ in edges] for axis in (0, 1)]
     wide, high = (max(side) - min(side) + 1 for side in sides) if edges else (0, 0)
     points = {b"x": wide * (high // over + 1), b"y": high * (wide // over + 1)}
-    return {b"none": 0, **points, b"both": sum(points.values())}[values.get(b"pocket", b"none")]
+    return {b"none": 0, **points, b"both": sum(points.values())}[way]
 
 
 def number_of(text):
@@ -238,6 +241,8 @@ def moves_of(text, units):
 
 def file_of(files, name, which, most):
     """The bytes of a file."""
+    if name == b"folder":
+        raise Refusal(5, b"read fault\n")
     if name not in files:
         # What stands in another folder isn't known here.
         raise Refusal(*((4, b"absent %s\n" % which) if len(name) < 256 and not {*b"./"} & {*name} else (None, None)))
@@ -246,14 +251,25 @@ def file_of(files, name, which, most):
     return files[name]
 
 
-def empty_program(values, taken):
+def carved_title(taken):
+    """The first line of a carved program."""
+    return b"(bit %d/%d rmax %d limit %d step %d)" % (*taken[b"bit"], *taken[b"rmax"], *taken.get(b"limit", [32_767]), *taken[b"step"])
+
+
+def empty_program(title, counts, values, taken):
     """The program that is written where nothing is drawn."""
     units = values.get(b"units", b"mm100")
-    note = b"(bit %d/%d rmax %d limit %d step %d)" % (*taken[b"bit"], *taken[b"rmax"], *taken.get(b"limit", [32_767]), *taken[b"step"])
     safe, zeros = taken.get(b"safe", [200])[0], len(str(PER_UNIT[units])) - 1
     setup = (b"G20" if units.startswith(b"in") else b"G21", b"G90", b"F%d" % taken.get(b"feed", [500])[0])
     up = b"G0 Z%d.%0*d" % (safe // PER_UNIT[units], zeros, safe % PER_UNIT[units])
-    return b"\n".join((note, *setup, up, b"(uncut 0 of 0)", b"M2\n"))
+    return b"\n".join((title, *setup, up, counts, b"M2\n"))
+
+
+def due_chains(chains, edges, taken):
+    """The statuses where there are no more chains than so many; few of them are never too many, and then the points are counted."""
+    if chains <= MOST_CHAINS:
+        check_report(edges, taken.get(b"pitch", [10])[0])
+    return (0,) if chains <= MOST_CHAINS else (0, 3)
 
 
 def due(words, files):
@@ -284,10 +300,12 @@ def due(words, files):
             return (0,), None if contacts_of(edges, taken[b"step"][0]) else b""
         if command == b"carve":
             # Where the contacts and the points of a pocket are few, so are the chains. What is written is judged by its form.
-            few = MOST_STEPS * contacts_of(edges, taken[b"step"][0]) + milled(edges, values, taken) <= MOST_CHAINS
-            if few:
-                check_report(edges, taken.get(b"pitch", [10])[0])
-            return ((0,) if few else (0, 3)), None if edges else empty_program(values, taken)
+            chains = MOST_STEPS * contacts_of(edges, taken[b"step"][0]) + milled(edges, values.get(b"pocket", b"none"), taken)
+            empty = empty_program(carved_title(taken), b"(uncut 0 of 0)", values, taken)
+            return due_chains(chains, edges, taken), None if edges else empty
+        if command == b"flat":
+            empty = empty_program(b"(flat %d)" % taken[b"radius"][0], b"(floor 0 of 0)", values, taken)
+            return due_chains(milled(edges, values.get(b"pocket", b"x"), taken), edges, taken), None if edges else empty
         moves = moves_of(file_of(files, values[b"code"], b"code", MOST_CODE), values.get(b"units", b"mm100"))
         if command == b"cover":
             # Where something is drawn, the lines are judged by their form.

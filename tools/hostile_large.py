@@ -1,6 +1,6 @@
 """The larger inputs of tools/hostile.py, written by hand: files in pieces that are repeated, and what is due for each."""
 
-from hostile_rows import CARVE, CHECK, CONTACTS, CXF, DOWN, DXF, EVENODD, FLATTEN, FONT, LETTER_I, MOVES, PBM, PROBE, SPREAD, SQUARE
+from hostile_rows import CARVE, CHECK, CONTACTS, CXF, DOWN, DXF, EVENODD, FLAT, FLATTEN, FONT, LETTER_I, MOVES, PBM, PROBE, REPAIR, SPREAD, SQUARE, STROKES
 
 # Names that are read up to the limit, and how far that is.
 DRAWING_LIMIT, CODE_LIMIT = 16_777_216, 536_870_912
@@ -35,12 +35,16 @@ def between(squares, triangles):
     return b"".join(text % ((y, y, y + 4, y + 4) if text.count(b"%") == 4 else (y, y, y + 2)) for y, text in zip(range(9, 200, 9), corners))
 
 
-def strips(height):
-    """Ten strips of the width 2, which a bit of radius 1 fits into along their middle."""
-    return b"".join(b"%d,0 %d,0 %d,%d %d,%d\n" % (x, x + 2, x + 2, height, x, height) for x in range(0, 40, 4))
+def strips(height, width=2):
+    """Ten strips of the width 2, which a bit of radius 1 fits into along their middle; or of another width."""
+    sides = ((x, x + width) for x in range(0, 20 * width, 2 * width))
+    return b"".join(b"%d,0 %d,0 %d,%d %d,%d\n" % (x, v, v, height, x, height) for x, v in sides)
 
 
 MILLED = "carve --drawing=d --bit=1/1 --rmax=1 --step=32767 --pitch=32767 --pocket=x --over=1"
+FLATS = FLAT.replace("600", "1").replace("50", "1") + " --over=1 --pitch=32767"
+# A triangle far from strips, in which no bit fits: with it a report of every point has too many.
+AWAY = b"32764,0 32767,0 32767,3\n"
 LARGE = [
     (PROBE, [(b"1", DRAWING_LIMIT)], [], 3, "input loops 0 syntax"),
     (PROBE, [(b"1", DRAWING_LIMIT + 1)], [], 3, "input too long drawing"),
@@ -78,6 +82,13 @@ LARGE = [
     (MILLED, [(strips(13_104), 1)], [], 3, "input too many chains"),
     (MILLED, [(strips(13_109), 1)], [], 3, "input too many chains"),
     (MILLED.replace("=x", "=y"), [(strips(13_109), 1)], [], 0, ...),
+    # Of a strip of the width 4 each row is a chain of one node, from 2 below its top to 2 above its foot; and each column is one.
+    (FLATS, [(strips(13_110, 4), 1)], [], 0, "(floor 0 of 0)\nM2"),
+    (FLATS, [(strips(13_111, 4), 1)], [], 3, "input too many chains"),
+    (FLATS.replace("32767", "1"), [(strips(13_110, 4) + AWAY, 1)], [], 3, "input too many points"),
+    (FLATS.replace("32767", "1"), [(strips(13_111, 4) + AWAY, 1)], [], 3, "input too many chains"),
+    (FLATS + " --pocket=y", [(strips(13_111, 4), 1)], [], 0, ...),
+    (FLATS + " --pocket=both", [(b"0,0 4000,0 4000,4000 0,4000\n", 1)], [], 0, ...),
     (CARVE.replace("500", "8"), [(within(33), 1)], [], 3, "input too many contacts"),
     (CARVE.replace("500", "7"), [(SQUARE, 1), (within(33), 1)], [], 3, "input step too fine 4"),
     (MOVES, [], [(b"N1\n", 1_000_000), (b"Q", 1)], 3, "input code line 1000001 word"),
@@ -85,6 +96,9 @@ LARGE = [
     (MOVES, [], [(b"X" + b"0" * 1023 + b"\n", 20_000)], 0, "moves 0"),
     (MOVES, [], [(b"G90" * 341 + b"\n", 20_000)], 0, "moves 0"),
     (MOVES, [], [(b"X0Y0Z1\n", 1), (b"X1\n", 300_000)], 0, "moves 300000"),
+    (REPAIR, [(SQUARE, 1)], [(b"X0Y0Z1\n", 1), (b"X1\n", 300_000)], 0, "M2"),
+    # A plunge outside, with which each move that stays below the surface is mended too.
+    (REPAIR, [(SQUARE, 1)], [(b"X-9Y0Z1\nZ-1\n", 1), (b"X-8\nX-9\n", 100_000)], 0, "M2"),
 ]
 
 BEGIN, END = b"0\nSECTION\n2\nENTITIES\n", b"0\nENDSEC\n0\nEOF\n"
@@ -101,7 +115,10 @@ LARGE += [
     (IN_DXF, [(b"999\n\n", DRAWING_LIMIT // 5)], [], 3, f"input dxf pair {DRAWING_LIMIT // 5 + 1} unended"),
     (IN_DXF, [(BEGIN, 1), (b"0\nX\n", 4_000_000), (END, 1)], [], 0, "# skipped 4000000"),
     (IN_DXF, [(BEGIN, 1), (LINE, 131_072), (END, 1)], [], 3, "input cross 0,1"),
-    (IN_DXF + EVENODD, [(BEGIN, 1), (LINE, 131_072), (END, 1)], [], 0, "0,0 100,0"),
+    (STROKES, [(BEGIN, 1), (LINE, 131_072), (END, 1)], [], 0, ...),
+    (STROKES, [(BEGIN, 1), (LINE, 131_073), (END, 1)], [], 3, "input dxf pair 655363 too many"),
+    (STROKES, [(BEGIN, 1), (b"0\nX\n", 4_000_000), (END, 1)], [], 0, "(strokes 0 chains 0 depth 10)\nG21\nG90\nF500\nG0 Z2.00\n(cut 0 of 0)\nM2"),
+    (IN_DXF + EVENODD, [(BEGIN, 1), (LINE, 131_072), (END, 1)], [], 0, "# skipped 0" + "\n0,0 100,0" * 65_536),
     (IN_DXF, [(BEGIN, 1), (LINE, 131_073), (END, 1)], [], 3, "input dxf pair 655363 too many"),
     (IN_DXF, [(BEGIN, 1), (LINE, (DRAWING_LIMIT - len(BEGIN)) // len(LINE))], [], 3, "input dxf pair 655363 too many"),
     (IN_DXF, [(BEGIN, 1), (LINE.replace(b"1\n21", b"0.001\n21"), 480_000), (END, 1)], [], 0, "# skipped 0"),
@@ -116,7 +133,8 @@ LARGE += [
     (IN_CXF.replace("=I", "=" + "I" * 200) + " --height=9", [(b"[I]\n", 1), (b"L 0,0,0,9\n", 1_600_000)], [], 3, "input lay too many"),
     (IN_CXF + " --height=1", [(b"[I]\n", 1), (b"L 0,0,0,1\n", 1_600_000)], [], 0, None),
     (IN_CXF + " --chord=1", [(b"[I]\n", 1), (b"A 0,0,0,0,0\n", 2_000)], [], 0, None),
-    (IN_PBM, [(b"P1 8191 2048\n", 1), (b"0", DRAWING_LIMIT - 13)], [], 0, None),
+    (IN_PBM, [(b"P1 8191 2048\n", 1), (b"0", DRAWING_LIMIT - 13)], [], 3, "input pixels out of range"),
+    (IN_PBM + " --pixel=4", [(b"P1 8191 2048\n", 1), (b"0", DRAWING_LIMIT - 13)], [], 0, None),
     (IN_PBM, [(b"P1 8191 2048\n", 1), (b" ", DRAWING_LIMIT - 13)], [], 3, "input pbm short"),
     (IN_PBM, [(b"P1 #", 1), (b"#", DRAWING_LIMIT - 4)], [], 3, "input pbm header"),
     (IN_PBM + " --pixel=4", [(b"P4 8191 8191\n", 1), (b"\0", 8_387_584)], [], 0, None),
@@ -140,7 +158,7 @@ def pierced(triangles, squares):
     return [(WHOLE + b"".join(holes), 1)]
 
 
-PIERCED = CARVE.replace("1/1", "1/10").replace("600", "60").replace("500", "32767")
+PIERCED = CARVE.replace("1/1", "1/10").replace("600", "60").replace("500", "32767") + " --pitch=32767"
 HUGE = [
     # 39,506 * 106 + 55 * 121 + 13 are 4,194,304 nodes, and 39,514 * 106 + 48 * 121 + 13 are one more.
     (PIERCED, pierced(39_506, 55), [], 0, "M2"),

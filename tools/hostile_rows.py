@@ -13,6 +13,8 @@ CONTACT = re.compile(rb"%s %s %s/[1-9][0-9]* (left|right|none) %s -?%s,-?%s\n" %
 LENGTH = rb"-?(0|[1-9][0-9]*)\.[0-9]{1,3}"
 CARVED_LINES = [rb"\(bit %s/%s rmax %s limit %s step %s\)" % ((COUNT,) * 5), rb"G2[01]", rb"G90", rb"F" + COUNT]
 CARVED_LINES += [rb"G[01] Z%s" % LENGTH, rb"G0 X%s Y%s" % ((LENGTH,) * 2), rb"G1 X%s Y%s Z%s" % ((LENGTH,) * 3)]
+FLAT_LINES = [rb"\(flat %s\)" % COUNT, *CARVED_LINES[1:], rb"\(floor y -?%s x -?%s to -?%s\)" % ((COUNT,) * 3), rb"\(floor %s of %s\)" % ((COUNT,) * 2)]
+FLAT_LINE = re.compile(rb"(%s)\n" % rb"|".join(FLAT_LINES))
 RUN = rb"uncut y -?%s x -?%s to -?%s" % ((COUNT,) * 3)
 LEFT = rb"uncut %s of %s" % ((COUNT,) * 2)
 CARVED_LINES += [rb"\(%s\)" % RUN, rb"\(%s\)" % LEFT]
@@ -23,7 +25,7 @@ LOOP = re.compile(rb"# skipped %s\n|%s( %s)+\n" % (COUNT, POINT, POINT))
 WRITTEN = [rb"G2[01]", rb"G90", rb"F%s" % COUNT, rb"G[01]( [XYZ]-?(0|[1-9][0-9]*)\.[0-9]{1,4}){1,3}"]
 REPAIRED_LINE = re.compile(rb"(%s)\n" % rb"|".join([rb"\(repaired %s of %s\)" % ((COUNT,) * 2), *WRITTEN]))
 STROKES_LINE = re.compile(rb"(%s)\n" % rb"|".join([rb"\(strokes %s chains %s depth %s\)" % ((COUNT,) * 3), rb"\(cut %s of %s\)" % ((COUNT,) * 2), *WRITTEN]))
-LISTED_LINES = {b"repair": REPAIRED_LINE, b"strokes": STROKES_LINE, b"moves": MOVE, b"contacts": CONTACT, b"carve": CARVED_LINE, b"cover": re.compile(RUN + rb"\n"), b"flatten": LOOP}
+LISTED_LINES = {b"repair": REPAIRED_LINE, b"strokes": STROKES_LINE, b"flat": FLAT_LINE, b"moves": MOVE, b"contacts": CONTACT, b"carve": CARVED_LINE, b"cover": re.compile(RUN + rb"\n"), b"flatten": LOOP}
 LOOPS_KINDS = rb" (syntax|out of range|same point|too many|short)"
 FORMS_KINDS = rb"|dxf pair [1-9][0-9]* (bad code|missing (10|11|20|21|40|50|51)|number|unended|out of range|too many)"
 FORMS_KINDS += rb"|cxf line [1-9][0-9]* (syntax|number)|lay (no glyph " + COUNT + rb"|out of range|too many)"
@@ -57,9 +59,24 @@ CHECK = "check --drawing=d --code=c --bit=1/1 --rmax=200"
 CONTACTS = "contacts --drawing=d --step=250 --rmax=600"
 CARVE = "carve --drawing=d --bit=1/1 --rmax=600 --step=500"
 SPREAD = "carve --drawing=d --bit=2/1 --rmax=1 --step=4 --pitch=32767"
+FLAT = "flat --drawing=d --bit=1/1 --rmax=600 --radius=50"
+FLOOR = FLAT + " --limit=100 --over=300 --pitch=100"
 COVER = "cover --drawing=d --code=c --bit=1/1 --rmax=200"
 FLATTEN = "flatten --drawing=d"
 STROKES = "strokes --drawing=d --form=dxf --bit=1/1 --rmax=600 --depth=10"
+REPAIR = "repair --drawing=d --code=c --bit=1/1 --rmax=200"
+# What a repair writes of DOWN over SQUARE, where nothing is to be mended.
+REPAIRED = """(repaired 0 of 2)
+G21
+G90
+F500
+G0 Z2.000
+G0 X1.000 Y3.000
+G0 X1.000 Y3.000 Z2.000
+G1 X1.000 Y3.000 Z-1.000
+G1 X1.000 Y1.000 Z-1.000
+G0 X1.000 Y1.000 Z2.000
+M2"""
 
 # Drawings for PROBE: the bytes, the status, the line.
 DRAWINGS = [
@@ -279,6 +296,55 @@ M2""",
     (FINE, b"-32768,0 32767,0 0,1\n", 3, "input step too fine 0"),
     (FINE, FOUR + b"0,8 32767,8 0,9\n", 3, "input step too fine 4"),
     (FINE.replace("step=2", "step=32767"), b"-1,-1 32767,-1 0,600\n", 3, "input too many points"),
+]
+
+# Floors for flat, likewise: by rows, and none for too wide a bit; where no depth is allowed; and what has too many points.
+FLAT_HEAD = "(flat 50)\nG21\nG90\nF500\nG0 Z2.00\n"
+FLOOR_LEFT = "".join(f"(floor y {y} x 100 to 900)\n" for y in range(100, 1000, 100))
+CARVINGS += [
+    (FLAT, b"", 0, FLAT_HEAD + "(floor 0 of 0)\nM2"),
+    (FLAT + " --units=in1000 --safe=1 --feed=1 --pocket=both", b"#\n", 0, "(flat 50)\nG20\nG90\nF1\nG0 Z0.001\n(floor 0 of 0)\nM2"),
+    (
+        FLOOR,
+        SQUARE,
+        0,
+        FLAT_HEAD
+        + """G0 X1.50 Y3.00
+G1 Z-1.00
+G1 X8.50 Y3.00 Z-1.00
+G0 Z2.00
+G0 X1.50 Y6.00
+G1 Z-1.00
+G1 X8.50 Y6.00 Z-1.00
+G0 Z2.00
+(floor y 100 x 100 to 900)
+(floor y 200 x 100 to 900)
+(floor y 300 x 100 to 100)
+(floor y 300 x 900 to 900)
+(floor y 400 x 100 to 900)
+(floor y 500 x 100 to 900)
+(floor y 600 x 100 to 100)
+(floor y 600 x 900 to 900)
+(floor y 700 x 100 to 900)
+(floor y 800 x 100 to 900)
+(floor y 900 x 100 to 900)
+(floor 67 of 81)
+M2""",
+    ),
+    (FLOOR.replace("=50", "=450"), SQUARE, 0, FLAT_HEAD.replace("50)", "450)") + FLOOR_LEFT + "(floor 81 of 81)\nM2"),
+    # The middle alone is as far from the edges; and every point is nearer.
+    (
+        FLOOR.replace("=50", "=400").replace("300", "500").replace("pitch=100", "pitch=400"),
+        SQUARE,
+        0,
+        FLAT_HEAD.replace("50)", "400)") + "G0 X5.00 Y5.00\nG1 Z-1.00\nG0 Z2.00\n(floor y 800 x 800 to 800)\n(floor 1 of 4)\nM2",
+    ),
+    (FLOOR.replace("=50", "=401").replace("300", "500"), SQUARE, 0, FLAT_HEAD.replace("50)", "401)") + FLOOR_LEFT + "(floor 81 of 81)\nM2"),
+    (FLOOR.replace("1/1", "2000/1").replace("600", "1"), SQUARE, 0, FLAT_HEAD + "(floor 0 of 0)\nM2"),
+    (FLAT, b"0,0\n", 3, "input loops 0 short"),
+    (FLAT, b"-9,0 9,0 0,9\n0,0 5,-5 -5,-5\n", 3, "input cross 0,3"),
+    (FLAT + " --pitch=1", b"0,0 4095,0 4095,4096\n", 3, "input too many points"),
+    (FLAT.replace("1/1", "2000/1").replace("600", "1") + " --pitch=1", b"0,0 4095,0 4095,4096\n", 3, "input too many points"),
 ]
 
 # Drawings that cross, by the even-odd rule, likewise.
@@ -548,12 +614,36 @@ M2""",
     (STROKES.replace("--form=dxf", "--form=loops"), 2, "usage"),
     (STROKES.replace("--form=dxf", "--form=pbm"), 2, "usage"),
     (STROKES.replace("--form=dxf", "--form=cxf"), 2, "usage"),
-    (STROKES.replace("--form=dxf", "--form=cxf --text=I"), 3, "input cxf line 1 syntax"),
+    (STROKES.replace("--form=dxf", "--form=cxf --text=I"), 3, "input lay no glyph 0"),
     (STROKES.replace("--drawing=d", "--drawing=nothing"), 4, "absent drawing"),
     (STROKES + " --step=1", 2, "usage"),
     (STROKES + " --limit=1", 2, "usage"),
     (STROKES + " --depth=10", 2, "usage"),
     ("strokes", 2, "usage"),
+    (REPAIR, 0, REPAIRED),
+    (REPAIR + " --safe=32767 --feed=10000", 0, REPAIRED.replace("F500", "F10000").replace("Z2.000", "Z327.670", 1).replace("Y1.000 Z2.000", "Y1.000 Z327.670")),
+    (REPAIR.replace("--drawing=d", "--drawing=nothing"), 4, "absent drawing"),
+    (REPAIR.replace("--code=c", "--code=nothing"), 4, "absent code"),
+    (REPAIR.replace("--code=c", "--code=folder"), 5, "read fault"),
+    (REPAIR.replace("--code=c", "--code=d"), 3, "input code line 1 word"),
+    (REPAIR.replace("--drawing=d", "--drawing=c"), 3, "input loops 0 syntax"),
+    *[(REPAIR.replace(said, ""), 2, "usage") for said in ("--drawing=d", "--code=c", "--bit=1/1", "--rmax=200")],
+    *[(f"{REPAIR} --{wrong}", 2, "usage") for wrong in ("safe=0", "safe=32768", "feed=0", "feed=10001", "pitch=1", "step=1", "limit=1", "depth=1", "code=c")],
+    ("repair", 2, "usage"),
+    ("flat", 2, "usage"),
+    *[(FLAT.replace(f" --{name}", " --nothing"), 2, "usage") for name in ("drawing=d", "bit=1/1", "rmax=600", "radius=50")],
+    *[(FLAT.replace(f" --{name}", ""), 2, "usage") for name in ("drawing=d", "bit=1/1", "rmax=600", "radius=50")],
+    *[(FLAT.replace("=50", f"={wrong}"), 2, "usage") for wrong in ("", "0", "8192", "-1", "1.0", "1/1", "0000000001")],
+    *[(f"{FLAT} --over={wrong}", 2, "usage") for wrong in ("0", "8192")],
+    *[(f"{FLAT} --pocket={wrong}", 2, "usage") for wrong in ("none", "", "X", "xy", "x --pocket=x")],
+    *[(f"{FLAT} --{wrong}", 2, "usage") for wrong in ("limit=0", "limit=32768", "safe=0", "feed=10001", "pitch=0", "step=500", "depth=5", "code=c", "at=5,5")],
+    (FLAT + " --radius=50", 2, "usage"),
+    (FLAT + " --pocket=none --drawing=nothing", 2, "usage"),
+    (FLAT.replace("=d", "=nothing"), 4, "absent drawing"),
+    (FLAT.replace("=d", "=c"), 3, "input loops 0 syntax"),
+    (FLAT.replace("=d", "=c") + " --pocket=none", 2, "usage"),
+    (CARVE + " --radius=50", 2, "usage"),
+    (COVER + " --radius=50", 2, "usage"),
     ("cover", 2, "usage"),
     (COVER.replace("--code=c", ""), 2, "usage"),
     (COVER.replace("--drawing=d", ""), 2, "usage"),
@@ -717,22 +807,25 @@ NAMES = [
 COPIES = ["two\nlines", "naïve ☃", "two words", "--code"]
 
 # Outputs that take nothing, for answers of each kind: the words.
-UNWRITTEN = [PROBE, MOVES, CHECK, CONTACTS, CARVE, FLATTEN, FLATTEN + " --form=pbm", CARVE.replace("=500", "=0"), "usage"]
-UNWRITTEN += ["moves --code=nothing", "moves --code=folder", "moves --code=d"]
+UNWRITTEN = [PROBE, MOVES, CHECK, CONTACTS, CARVE, FLOOR, FLATTEN, FLATTEN + " --form=pbm", CARVE.replace("=500", "=0"), "usage"]
+UNWRITTEN += ["moves --code=nothing", "moves --code=folder", "moves --code=d", COVER, REPAIR, STROKES, "trial --count=1"]
 
-DRAWN = [FLATTEN, PROBE, CONTACTS, CARVE + " --pitch=1000"]
+DRAWN = [FLATTEN, PROBE, CONTACTS, CARVE + " --pitch=1000", STROKES.replace(" --form=dxf", "") + " --pitch=1000"]
 
 # Limits of the address space, in MiB, under which an answer may be the want of memory.
 SPACES = [*range(4, 40, 2), 48, 64, 96, 128]
 
 # What is stated of memory: so many MiB, and bytes for each byte of the files, move of the code, contact, line of a carved program or of a
-# report, and word; never more than the last, in MiB. And of time: so many seconds, and seconds for each MiB, move, contact, node that
+# report, and word; for each vertex of a DXF file, and each glyph and element of a font; never more than 1 GiB. And of time: so many seconds, and seconds for each MiB, move, contact, node that
 # there may be, in a check for each pair of a move and an edge, and in a report for each point and each row that a move may reach.
 MEBIBYTES, BYTES_A_BYTE, BYTES_A_MOVE, BYTES_A_CONTACT, BYTES_A_LINE, BYTES_A_WORD, MOST_MEBIBYTES = 32, 1, 80, 64, 100, 512, 1024
 SECONDS, SECONDS_A_MEBIBYTE, SECONDS_A_MOVE, SECONDS_A_CONTACT, SECONDS_A_NODE, SECONDS_A_PAIR = 2, 0.05, 2e-6, 1e-5, 3e-5, 2e-7
 SECONDS_A_POINT, SECONDS_A_ROW, SECONDS_A_SEGMENT = 1e-7, 3e-6, 2e-5
-# Of a pocket, for each point of its lines; and of a trial, for each of its cells.
-SECONDS_A_MILLED, SECONDS_A_CELL = 1e-6, 0.2
+BYTES_A_VERTEX, BYTES_A_GLYPH, BYTES_AN_ELEMENT = 64, 300, 120
+# For each element of a font and character of a text.
+SECONDS_AN_ELEMENT = 4e-7
+# Of a pocket, for each point of its lines; of a floor, for each point of its report; and of a trial, for each of its cells.
+SECONDS_A_MILLED, SECONDS_A_FLOOR, SECONDS_A_CELL = 1e-6, 3e-6, 0.2
 # How many bytes of a file there are for each segment at least, by its form.
 BYTES_OF_A_SEGMENT = {b"dxf": 6, b"cxf": 10, b"pbm": 0.06, b"loops": 4}
 
@@ -752,10 +845,11 @@ WORD_BASES = {
     "drawings": [PROBE, PROBE.replace("500,500", "501,200"), SMALL],
     "codes": [MOVES, MOVES + " --units=mm1000", MOVES + " --units=in100", MOVES + " --units=mm10"],
     "checks": [CHECK, CHECK + " --units=mm10", CHECK.replace("1/1", "2000/1999")],
+    "repairs": [REPAIR, REPAIR + " --safe=1 --units=mm1000", REPAIR.replace("1/1", "2000/1999")],
     "covers": [COVER, COVER + " --pitch=77", COVER.replace("1/1", "2000/1999") + " --pitch=1000"],
     "contacts": [CONTACTS, CONTACTS.replace("250", "1"), CONTACTS + " --units=in100"],
-    "carvings": [CARVE, CARVE + " --limit=60 --pocket=both --cross=evenodd --pitch=100", CARVE.replace("500", "5"), CARVE.replace("1/1", "1/200") + " --units=in1000", FINE],
-    "words": [FLATTEN + " --snap=2 --chord=9", FLATTEN + " --form=cxf --text=a", PROBE + " --limit=7", CONTACTS, MOVES + " --units=mm100", CHECK, APART, CARVE + " --safe=7 --feed=8", CARVE + " --pocket=y --over=100 --cross=evenodd", "trial --count=2", COVER + " --pitch=9"],
+    "carvings": [CARVE, CARVE + " --limit=60 --pocket=both --cross=evenodd --pitch=100", CARVE.replace("500", "5"), CARVE.replace("1/1", "1/200") + " --units=in1000", FINE, FLOOR, FLOOR.replace("=50", "=1") + " --pocket=both --cross=evenodd"],
+    "words": [FLATTEN + " --snap=2 --chord=9", FLATTEN + " --form=cxf --text=a", PROBE + " --limit=7", CONTACTS, MOVES + " --units=mm100", CHECK, APART, CARVE + " --safe=7 --feed=8", CARVE + " --pocket=y --over=100 --cross=evenodd", "trial --count=2", COVER + " --pitch=9", FLOOR, FLAT + " --pocket=both --limit=60"],
 }
 ALPHABET = b"0123456789012345678901234567890123456789,,,,....---++     \t\t\r\n\n\n\n\n#GXYZMNgxyzFSP()%;=/\xe9"
 BREAKS = [b"\n", b"\r\n", b"\r", b" ", b"\t", b"\0", b"\xef\xbb\xbf", b"\v"]
@@ -766,7 +860,7 @@ CODE_TOKENS = [*CODE_TOKENS.split(), *b"/ ( ) (a) ; % . - + -- 1e3 0 99".split()
 FORM_TOKENS = b"0|9|EOF|LINE|VERTEX|SEQEND|POLYLINE|70|-1|1e9|1e-9|[I]|[#61]|[|]|L 0,0,1,1|A 0,0,1,0,90|AR 1,1,1,9,0|P1|P4|8191|#"
 FORM_TOKENS = [*FORM_TOKENS.split(b"|"), b"9" * 27, b"9" * 28, *BREAKS]
 WORD_TOKENS = b"--|-|=|--help|-h|--limit=1|--limit|--units=mm10|--form=loops|--code=c|--at=1,1|--rmax=0|1/1|8191|32768|-5,5|,"
-WORD_TOKENS += b"|--form=dxf|--form=pbm|--text=\xe4|--text=b|--cross=evenodd|--pocket=x|--over=9|trial|--count=1|--justify=left|--flip=yes|--mirror|--pixel=0|--width=10|flatten"
+WORD_TOKENS += b"|--form=dxf|--form=pbm|--text=\xe4|--text=b|--cross=evenodd|--pocket=x|--pocket=none|--radius=9|--radius|flat|--over=9|trial|--count=1|--justify=left|--flip=yes|--mirror|--pixel=0|--width=10|flatten"
 WORD_TOKENS = [*WORD_TOKENS.split(b"|"), *b"--safe=1|--feed=1|--pitch=1| | --| - | -- |\xc3\xa9|\xff|\n|  |probe| d|0".split(b"|")]
 
 # Where the run isn't root's: the words, the status, the text.

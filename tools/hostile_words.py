@@ -9,7 +9,7 @@ from hostile_expected import NUMBERS, OPTIONS, SHAPE_WORDS, WAYS
 
 FILES = {b"drawing": b"d", b"code": b"c"}
 # numbers that keep a run short, for what may make it long
-SHORT = {b"over": [50, 100, 500], b"step": [250, 500], b"pitch": [100, 1000], b"count": [1, 2, 3], b"limit": [1, 60, 300], b"depth": [1, 10, 60], b"rmax": [2, 60, 600]}
+SHORT = {b"over": [50, 100, 500], b"radius": [1, 50, 450], b"step": [250, 500], b"pitch": [100, 1000], b"count": [1, 2, 3], b"limit": [1, 60, 300], b"depth": [1, 10, 60], b"rmax": [2, 60, 600]}
 # what open lines may come in, and the options that say so
 OPEN_FORMS, OPEN = [b"dxf", b"cxf"], [b"form", b"text"]
 NOT_NUMBERS = [b"", b"-", b"+1", b"1.0", b"0x1", b" 1", b"1 ", b"one", b"1,1", b"1/1", b"9999999999", b"-1", b"\xc3\xa9"]
@@ -55,7 +55,7 @@ def chosen(chance, command):
     elif wrong < 0.06:
         names.append(chance.choice(names))
     elif wrong < 0.1:
-        names.append(chance.choice([b"over", b"pocket", b"cross", b"count", b"at", b"code", b"depth"]))
+        names.append(chance.choice([b"over", b"pocket", b"cross", b"count", b"at", b"code", b"depth", b"radius"]))
     chance.shuffle(names)
     return names
 

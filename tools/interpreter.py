@@ -1,5 +1,5 @@
 #!/usr/bin/env python3
-"""Reads the carved programs of examples/ by LinuxCNC's interpreter too, and compares its moves with those that `moves` lists.
+"""Reads the programs of `carve` and `flat` in examples/ by LinuxCNC's interpreter too, and compares its moves with those that `moves` lists.
 
     python3 tools/interpreter.py [--program PATH] [--interpreter PATH] [FILE ..]
 
@@ -86,10 +86,10 @@ def way(start, end):
 
 
 def carved():
-    """The carved programs of the examples, with their units."""
+    """The carved and milled programs of the examples, with their units."""
     for words in sorted((TOP / "examples").glob("*/words")):
         case = Case(words.parent)
-        if case.words[0] == "carve" and case.status == 0:
+        if case.words[0] in ("carve", "flat") and case.status == 0:
             units = [word.removeprefix("--units=") for word in case.words if word.startswith("--units=")]
             yield case.folder / "expected", units[0] if units else "mm100"
 

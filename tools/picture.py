@@ -6,8 +6,12 @@
 
     python3 tools/picture.py --code=scale.ngc --bit=571/989 --rmax=150 --out=scale.svg
 
+    python3 tools/picture.py --drawing=exit.loops --units=mm10 --code=walls.ngc --bit=571/989 --rmax=15 --flat=floor.ngc --radius=10 --out=both.svg
+
 The second marks edges by their numbers, as a line `input cross 1,4` names them: such a drawing is drawn too, by the even-odd rule. Without
-`--code` the drawing is all. The third draws a program alone, as one that engraves open lines.
+`--code` the drawing is all. The third draws a program alone, as one that engraves open lines. The fourth lays over it what a
+flat bit of this radius sweeps below the surface, in green; then the points that are left are those of the floor, which the program of the
+flat bit tells in its notes.
 
 The options are those of `engrave_cli cover`, which is run for the points, as `moves` is for the path and `flatten` for the drawing; those
 that say what a drawing is, as `--form=cxf --text=OAK`, are handed on. The drawing is grey, what a move below the surface removes of it
@@ -33,6 +37,8 @@ LONGER, MARGIN, FOOT = 960, 24, 36
 STYLE = """
 .outline { fill: #e4e1da; fill-rule: evenodd; stroke: #222; stroke-width: 1.2 }
 .cut { fill: #2f6db5; opacity: 0.45 }
+.flat { stroke: #3a8f4f; stroke-linecap: round; stroke-linejoin: round; fill: none; opacity: 0.55 }
+.axis { stroke: #1d5a2c; stroke-width: 0.8; fill: none }
 .way { stroke: #14406f; stroke-width: 0.8; fill: none }
 .lift { stroke: #777; stroke-width: 0.8; stroke-dasharray: 4 3; fill: none }
 .left { fill: #c8102e }
@@ -59,6 +65,12 @@ def read_runs(text):
     *runs, counts = text.splitlines()
     words = (run.split() for run in runs)
     return [(int(word[2]), int(word[4]), int(word[6])) for word in words], counts
+
+
+def read_floor(text):
+    """The runs and the line with the counts in the notes of a flat bit's program."""
+    notes = [line[1:-1] for line in text.splitlines() if line.startswith("(floor ")]
+    return read_runs("\n".join(notes))
 
 
 class Canvas:
@@ -150,6 +162,14 @@ def draw_cuts(canvas, moves, slope):
             canvas.path([sides], " Z")
 
 
+def draw_swept(canvas, moves, radius):
+    """What a flat bit sweeps below the surface, as one: a wide line along each of its ways."""
+    ways = [(first[:2], last[:2]) for first, last in filter(None, (below(*mv) for mv in moves))]
+    steps = " ".join(f"M{canvas.at(*first)} L{canvas.at(*last)}" for first, last in dict.fromkeys(ways))
+    canvas.parts.append(f'<path class="flat" stroke-width="{2 * radius * canvas.scale:.1f}" d="{steps}"/>')
+    canvas.parts.append(f'<path class="axis" d="{steps}"/>')
+
+
 def draw_ways(canvas, moves):
     for first, last in moves:
         if first[:2] != last[:2]:
@@ -178,10 +198,17 @@ def draw_program(canvas, options, drawing, moves, asked):
     sn, sd = map(int, options.bit.split("/"))
     canvas.together("cut", lambda: draw_cuts(canvas, moves, sn / sd))
     draw_ways(canvas, moves)
-    if not options.drawing:
+    if options.flat:
+        draw_swept(canvas, read_moves(asked("moves", f"--code={options.flat}", f"--units={options.units}")), options.radius)
+        draw_report(canvas, options, *read_floor(options.flat.read_text()))
+    if options.flat or not options.drawing:
         return
     bit = [f"--bit={options.bit}", f"--rmax={options.rmax}"]
-    runs, counts = read_runs(asked("cover", *drawing, *bit, f"--code={options.code}", f"--pitch={options.pitch}"))
+    draw_report(canvas, options, *read_runs(asked("cover", *drawing, *bit, f"--code={options.code}", f"--pitch={options.pitch}")))
+
+
+def draw_report(canvas, options, runs, counts):
+    """The points that are left, and how many they are."""
     canvas.together("left", lambda: draw_left(canvas, runs, options.pitch))
     canvas.note(f"{counts}, {options.pitch} grid units apart")
 
@@ -218,6 +245,8 @@ def main():
     parser.add_argument("--bit", help="SN/SD")
     parser.add_argument("--rmax", type=int)
     parser.add_argument("--edges", type=lambda text: [int(number) for number in text.split(",")], help="edges to mark, as 1,4")
+    parser.add_argument("--flat", type=Path, help="the G-code program of a flat bit, over the other; then with --radius")
+    parser.add_argument("--radius", type=int, help="the flat bit's radius, in grid units")
     parser.add_argument("--units", choices=UNITS, default="mm100")
     parser.add_argument("--pitch", type=int, default=10)
     parser.add_argument("--out", type=Path, required=True, help="the SVG file")
@@ -226,6 +255,8 @@ def main():
     options, shape = parser.parse_known_args()
     if options.code and not (options.bit and options.rmax):
         parser.error("--code goes with --bit and --rmax")
+    if options.flat and not (options.code and options.radius):
+        parser.error("--flat goes with --code and --radius")
     if not options.code and not options.drawing:
         parser.error("there is neither --drawing nor --code")
 

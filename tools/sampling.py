@@ -1,11 +1,13 @@
-"""Samples rational moments of a move and rational points, to see whether one removes a point that isn't inside."""
+"""Samples rational moments of a move, rational points and depths, to see whether one removes what it shouldn't."""
 
 from fractions import Fraction
+from math import isqrt
 
 from definitions import (
     corner_margin,
     deep_part,
     depth_at,
+    is_in_disc,
     is_inside,
     is_removed,
     lowest_moment,
@@ -76,3 +78,30 @@ def removed_points(rng, bit, mv):
 def outside_witness(rng, edges, bit, mv):
     """A moment that removes a point that isn't inside, and that point, if there is one among the samples."""
     return next(((s, w) for s, w in removed_points(rng, bit, mv) if not is_inside(edges, w)), None)
+
+
+def towards(place, w, radius):
+    """A place in the direction of w, nearer than the radius, but as far as a billionth of the way shows."""
+    squared = squared_distance(place, w)
+    share = Fraction(max(isqrt(int(radius**2 * 10**18 / squared)) - 1, 0), 10**9) if squared else 0
+    return tuple(on_the_way(place[i], w[i], share) for i in (0, 1))
+
+
+def milled_material(rng, radius, mv, edges):
+    """Moments at which a flat bit of this radius removes material, and of that a point and a depth: much of it near the rim and the end."""
+    for s in (Fraction(0), Fraction(1), fraction(rng), fraction(rng)):
+        depth, place = depth_at(mv, s), place_at(mv, s)
+        if depth <= 0:
+            continue
+        aims = [place, *(nearest_point(place, edge) for edge in rng.sample(edges, min(len(edges), 4)))]
+        aims += [tuple(z + rng.randint(-9, 9) for z in place) for _ in range(3)]
+        for aim in aims:
+            w = towards(place, aim, radius * rng.choice([1, 1, fraction(rng)]))
+            t = depth * rng.choice([0, fraction(rng), 1 - Fraction(1, 10**9)])
+            if squared_distance(place, w) < radius**2 and t < depth:
+                yield s, w, t
+
+
+def is_in_target(edges, bit, deepest, w, t):
+    """The material below w at the depth t might be removed by the conical bit, its tip at the deepest depth: from w itself it might."""
+    return is_inside(edges, w) and deepest > t and not any(is_in_disc(bit, w, deepest, nearest_point(w, edge)) for edge in edges)

@@ -1,13 +1,15 @@
 """Wrong definitions, which the comparison has to find out; of each the function that it replaces, and the wrong one.
 
 To count a row's edges by `<` in place of `<=`, or a crossing at the point itself, isn't wrong: off the outline it
-changes nothing. Nor is it to leave out a side of a report's box: no point on it is inside.
+changes nothing. Nor is it to leave out a side of a report's box, or the last row of a floor: no point on it is inside. And that the way
+between two good neighbours is free needn't be asked for a flat bit: it always is.
 """
 
 import math
 from collections import Counter
 
 import definitions as d
+import flats
 
 
 def nearer_end(p, edge):
@@ -194,4 +196,29 @@ WRONG = {
     "pocket-first": ("plan", pocket_first),
     "overlapped-left-out": ("greatest_depth", overlapped_left_out),
     "first-move-alone": ("is_left", lambda bit, moves, w: not moves or not d.removes(bit, moves[0], w)),
+}
+
+
+FLAT_RUNS, ENDS_OF_RUN = flats.runs_along, d.ends_of_run
+
+
+def one_short(run):
+    return ENDS_OF_RUN(run[:-1] or run)
+
+
+def whole_line(edges, job, points):
+    """From the first good point of a line to the last one."""
+    return [[p for run in FLAT_RUNS(edges, job, points) for p in run]] if FLAT_RUNS(edges, job, points) else []
+
+
+WRONG_FLATS = {
+    "flat-edge-at-the-outline": ("reach_of", lambda job: job.radius * job.bit.sd),
+    "flat-cone-alone": ("reach_of", lambda job: job.bit.sn * flats.floor_of(job)),
+    "flat-never-touching": ("is_far", lambda squared, job: squared * job.bit.sd**2 > flats.reach_of(job) ** 2),
+    "flat-run-one-short": ("ends_of_run", one_short),
+    "flat-across-gaps": ("runs_along", whole_line),
+    "flat-lines-from-the-corner": ("lines_of", from_the_corner),
+    "flat-rim-swept": ("is_swept_by", lambda squared, radius: squared <= radius**2),
+    "flat-swept-at-any-height": ("places_at_floor", lambda job, mv: (mv.start.at, mv.end.at)),
+    "flat-floor-is-inside": ("is_floor", lambda edges, job, w: d.is_inside(edges, w)),
 }

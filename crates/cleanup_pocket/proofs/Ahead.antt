@@ -1,5 +1,4 @@
 -- The steps of a walk, as the code counts them: by the rules of Skips.
-use Rattle.std.specs.Prelude.{max}
 use Rattle.std.proofs.Common.{◌≡◌, ◌⊎◌, inl, inr, ℕ, suc, ◌+◌, ◌-◌, ◌*◌, ◌/◌, ◌<◌, ◌≤◌, List, ℤ, pos, ◌+ℤ◌, ◌-ℤ◌, ◌<ℤ◌, ◌≤ℤ◌, arith, ap, subst, sym, ◌∙◌}
 use Rattle.std.proofs.lemmas.Bool.{cases_lt}
 use Rattle.std.proofs.lemmas.Int.{ints, by_lt_z}
@@ -12,18 +11,19 @@ use Rattle.engrave_model.specs.Drawing.{edges_of}
 use Rattle.engrave_model.specs.Inside.{IsInside}
 use Rattle.depth_rule.specs.Clearance.{IsClearance}
 use Rattle.depth_rule.specs.Deepest.{deepest_of}
-use Rattle.cleanup_pocket.specs.Pocket.{IsGood, IsJoined, point_on}
+use Rattle.cleanup_pocket.specs.Floors.{IsJoinedBy, point_on}
+use Rattle.cleanup_pocket.specs.Pocket.{IsClearWay, IsGood}
 use Rattle.plane_exact.specs.Plane.{IsCoordinate}
 use Rattle.cleanup_pocket.specs.Walk.{AreJoinedFrom, IsBadAhead, IsFirstGood, IsInner, IsJoinedAhead, IsLastJoined, IsNoneGood}
 use Rattle.cleanup_pocket.specs.declared.axis.Axis.{Axis}
 use Rattle.depth_rule.proofs.DeepestDepths.{deepest_greatest}
 use Rattle.cleanup_pocket.proofs.Places.{behind}
-use Rattle.cleanup_pocket.proofs.Skips.{good_inside, outside_skip, shallow_skip, wide_joined}
+use Rattle.cleanup_pocket.proofs.Skips.{shallow_skip, wide_joined}
 
 -- ---- numbers
 
 -- sd times a quotient by sd
-times_quotient : (sd n : ℕ) → sd * (n / sd) ≤ n
+pub times_quotient : (sd n : ℕ) → sd * (n / sd) ≤ n
 times_quotient sd n = let whole = div-mul-le_self n sd in omega arith
 
 pub shallow_reaches : (sn sd deepest depth : ℕ) → depth < deepest → sd * (1 + sn * (deepest - depth - 1) / sd) + sn * (depth + 1) ≤ sd + sn * deepest
@@ -41,13 +41,14 @@ shallow_read sn sd r s deepest depth same_sn same_sd less =
     subst (λ s. sd * (1 + r * (deepest - depth - 1) / s) + sn * (depth + 1) ≤ sd + sn * deepest) (sym same_sd)
     (subst (λ r. sd * (1 + r * (deepest - depth - 1) / sd) + sn * (depth + 1) ≤ sd + sn * deepest) (sym same_sn) (shallow_reaches sn sd deepest depth less))
 
-pub wide_reaches : (sn sd deepest r m : ℕ) → m < (sd * r - sn * deepest) / sd → sd * suc m + sn * deepest ≤ sd * r
-wide_reaches sn sd deepest r m less =
-    let whole = times_quotient sd (sd * r - sn * deepest) in
-    let part : sd * suc m ≤ sd * ((sd * r - sn * deepest) / sd) = mul-le-mul_left sd less in
-    by_size (cases_lt (sn * deepest) (sd * r)) (omega arith)
+-- a way shorter than what a clearance of r leaves beyond a reach, both times sd
+pub wide_reaches : (sd reach r m : ℕ) → m < (sd * r - reach) / sd → sd * suc m + reach ≤ sd * r
+wide_reaches sd reach r m less =
+    let whole = times_quotient sd (sd * r - reach) in
+    let part : sd * suc m ≤ sd * ((sd * r - reach) / sd) = mul-le-mul_left sd less in
+    by_size (cases_lt reach (sd * r)) (omega arith)
   where
-    by_size : (sn * deepest < sd * r) ⊎ (sd * r ≤ sn * deepest) → sd * suc m ≤ sd * r - sn * deepest → sd * suc m + sn * deepest ≤ sd * r
+    by_size : (reach < sd * r) ⊎ (sd * r ≤ reach) → sd * suc m ≤ sd * r - reach → sd * suc m + reach ≤ sd * r
     by_size (inl far) within = omega arith
     by_size (inr near) within = omega arith
 
@@ -71,7 +72,7 @@ module _ (loops : List (List GridPoint)) (cone : Cone) (limit : ℕ) (axis : Axi
   Good place = IsGood edges cone limit axis line place
 
   abbrev Joined : ℤ → Type 0
-  Joined place = IsJoined edges cone limit axis line place
+  Joined place = IsJoinedBy (IsGood edges cone limit) (IsClearWay edges cone limit) axis line place
 
   -- a depth that isn't less than the deepest is it
   pub deep_ahead : (steep : 1 ≤ cone.sn) (place : ℤ) (z : ℕ) → IsGreatestDepth edges cone limit (point_on axis line place) z → deepest_of cone limit ≤ z → IsBadAhead Good place 0
@@ -84,18 +85,6 @@ module _ (loops : List (List GridPoint)) (cone : Cone) (limit : ℕ) (axis : Axi
       }
 
   module _ (deep : 1 ≤ deepest_of cone limit) (over : 1 ≤ cone.sd) where
-    pub outside_ahead : (place : ℤ) (r n : ℕ) → ¬ IsInside edges (rational (point_on axis line place)) → IsClearance edges (point_on axis line place) r → n ≡ max r 1
-        → IsBadAhead Good place n
-    outside_ahead place r n outside clear is = record {
-      bad = λ t from to.
-          let way = behind place t from in
-          let there = way.is in
-          by_lt_z place t
-          (λ later. let near : way.steps < r = omega (arith, ints) in λ good. outside_skip loops cone limit axis line deep place r way.steps clear outside near (subst Good there good))
-          (λ here. let same : t ≡ place = omega (arith, ints) in λ good. outside (good_inside loops cone limit axis line deep place (subst Good same good)));
-      good = λ none. absurd (omega arith);
-    }
-
     pub shallow_ahead : (place : ℤ) (z n : ℕ) → IsInside edges (rational (point_on axis line place)) → IsGreatestDepth edges cone limit (point_on axis line place) z
         → z < deepest_of cone limit → 1 ≤ n → cone.sd * n + cone.sn * (z + 1) ≤ cone.sd + cone.sn * deepest_of cone limit → IsBadAhead Good place n
     shallow_ahead place z n inside best shallow some reach = record {
@@ -117,7 +106,7 @@ module _ (loops : List (List GridPoint)) (cone : Cone) (limit : ℕ) (axis : Axi
         let there = way.is in
         let below : way.steps < (cone.sd * r - cone.sn * deepest_of cone limit) / cone.sd = omega (arith, ints) in
         subst Joined (sym there)
-        (wide_joined loops cone limit axis line deep steep over place r good clear way.steps (wide_reaches cone.sn cone.sd (deepest_of cone limit) r way.steps below))
+        (wide_joined loops cone limit axis line deep steep over place r good clear way.steps (wide_reaches cone.sd (cone.sn * deepest_of cone limit) r way.steps below))
 
 -- ---- one place
 

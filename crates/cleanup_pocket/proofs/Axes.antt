@@ -8,15 +8,13 @@ use Rattle.std.proofs.lemmas.Int.{ints}
 use Rattle.std.proofs.lemmas.List.{get_or_append_left, length-append}
 use Rattle.std.proofs.lemmas.List.Concat.{flat_map-append}
 use Rattle.std.proofs.lemmas.List.Elements.{All-nil}
-use Rattle.plane_exact.specs.Cone.{Cone}
 use Rattle.plane_exact.specs.Nodes.{GridNode, joined}
 use Rattle.plane_exact.specs.Plane.{GridPoint, IsCoordinate}
-use Rattle.plane_exact.specs.declared.point.Seg.{Seg}
 use Rattle.engrave_model.specs.Lists.{AreJoined}
 use Rattle.depth_rule.specs.Ticks.{AreTicks}
 use Rattle.depth_rule.proofs.Multiples.{IsTick, tick_above, tick_multiple, tick_of, tick_under}
 use Rattle.cleanup_pocket.specs.Kept.{IsGrown, IsKept}
-use Rattle.cleanup_pocket.specs.Pocket.{AreAxisChains, AreLineChains, AreLines, AreWayChains, IsLine, line_of}
+use Rattle.cleanup_pocket.specs.Floors.{AreAxisChains, AreLineChains, AreLines, AreWayChains, IsLine, OfPlaces, line_of}
 use Rattle.cleanup_pocket.specs.declared.axis.Axis.{Axis}
 use Rattle.cleanup_pocket.specs.declared.axis.Axis.TheVariants as axis
 use Rattle.cleanup_pocket.specs.declared.axis.Way.{Way}
@@ -110,9 +108,9 @@ module _ (first : ℤ) (over count : ℕ) (low high : ℤ) (apart : 1 ≤ over) 
 
 -- ---- their chains
 
-module _ (edges : List Seg) (cone : Cone) (limit over : ℕ) (low high : GridPoint) (axis : Axis) where
+module _ (IsGood IsWay : OfPlaces) (depth over : ℕ) (low high : GridPoint) (axis : Axis) where
   -- where there is no line, there is no chain
-  pub none_along : ((line : ℤ) → ¬ IsLine (line_of axis low) (line_of axis high) over line) → AreAxisChains edges cone limit over low high axis []
+  pub none_along : ((line : ℤ) → ¬ IsLine (line_of axis low) (line_of axis high) over line) → AreAxisChains IsGood IsWay depth over low high axis []
   none_along none = record {
     lines = [];
     all = record { each = All-nil (IsLine (line_of axis low) (line_of axis high) over); complete = λ line is. absurd (none line is); ordered = λ i j d less below. absurd (omega arith) };
@@ -126,7 +124,7 @@ module _ (edges : List Seg) (cone : Cone) (limit over : ℕ) (low high : GridPoi
     pub lines : List ℤ
     pub parts : List (List (List GridNode))
     pub are : AreFirstLines first over k lines
-    pub each : AllZip (AreLineChains edges cone limit axis) lines parts
+    pub each : AllZip (AreLineChains IsGood IsWay depth axis) lines parts
     pub grown : (all : List (List GridNode)) → IsKept all kept has_more → IsKept (all ++ joined parts) kept' has_more'
 
   module _ (first : ℤ) (kept : List (List GridNode)) (has_more : Bool) where
@@ -140,12 +138,12 @@ module _ (edges : List Seg) (cone : Cone) (limit over : ℕ) (low high : GridPoi
     }
 
     pub lines_stepped : (k : ℕ) (line : ℤ) (kept' kept'' : List (List GridNode)) (more more' : Bool) → line ≡ first +ℤ pos (k * over)
-        → IsGrown (AreLineChains edges cone limit axis line) kept' more kept'' more' → AreLinesKept first k kept has_more kept' more → AreLinesKept first (k + 1) kept has_more kept'' more'
+        → IsGrown (AreLineChains IsGood IsWay depth axis line) kept' more kept'' more' → AreLinesKept first k kept has_more kept' more → AreLinesKept first (k + 1) kept has_more kept'' more'
     lines_stepped k line kept' kept'' more more' is one far = record {
       lines = far.lines ++ line ∷ [];
       parts = far.parts ++ one.part ∷ [];
       are = one_line_more first over k far.lines line is far.are;
-      each = zip_push (AreLineChains edges cone limit axis) far.lines far.parts line one.part far.each one.is;
+      each = zip_push (AreLineChains IsGood IsWay depth axis) far.lines far.parts line one.part far.each one.is;
       grown = λ all here.
           let same : (all ++ joined far.parts) ++ one.part ≡ all ++ joined (far.parts ++ one.part ∷ []) =
           append_assoc all (joined far.parts) one.part ∙ ap (λ l. all ++ l) (sym (joined_push far.parts one.part)) in
@@ -153,7 +151,7 @@ module _ (edges : List Seg) (cone : Cone) (limit over : ℕ) (low high : GridPoi
     }
 
     pub lines_ended : (count : ℕ) (kept' : List (List GridNode)) (more : Bool) → 1 ≤ over → AreTicks (line_of axis low) (line_of axis high) over first count
-        → AreLinesKept first count kept has_more kept' more → IsGrown (AreAxisChains edges cone limit over low high axis) kept has_more kept' more
+        → AreLinesKept first count kept has_more kept' more → IsGrown (AreAxisChains IsGood IsWay depth over low high axis) kept has_more kept' more
     lines_ended count kept' more apart ticks far = record {
       part = joined far.parts;
       is = record {
@@ -168,24 +166,24 @@ module _ (edges : List Seg) (cone : Cone) (limit over : ℕ) (low high : GridPoi
 
 -- ---- rows, columns, or both
 
-module _ (edges : List Seg) (cone : Cone) (limit over : ℕ) (low high : GridPoint) (way : Way) (kept kept' : List (List GridNode)) (has_more more : Bool) where
+module _ (IsGood IsWay : OfPlaces) (depth over : ℕ) (low high : GridPoint) (way : Way) (kept kept' : List (List GridNode)) (has_more more : Bool) where
   abbrev Along : Axis → List (List GridNode) → Type 0
-  Along axis chains = AreAxisChains edges cone limit over low high axis chains
+  Along axis chains = AreAxisChains IsGood IsWay depth over low high axis chains
 
   abbrev Chains : List (List GridNode) → Type 0
-  Chains chains = AreWayChains edges cone limit over low high way chains
+  Chains chains = AreWayChains IsGood IsWay depth over low high way chains
 
   pub rows_added : way ≡ ways.X → IsGrown (Along axis.X) kept has_more kept' more → IsGrown Chains kept has_more kept' more
-  rows_added is = same_added kept has_more (Along axis.X) Chains (λ part rows. subst (λ way. AreWayChains edges cone limit over low high way part) (sym is) rows) kept' more
+  rows_added is = same_added kept has_more (Along axis.X) Chains (λ part rows. subst (λ way. AreWayChains IsGood IsWay depth over low high way part) (sym is) rows) kept' more
 
   pub columns_added : way ≡ ways.Y → IsGrown (Along axis.Y) kept has_more kept' more → IsGrown Chains kept has_more kept' more
-  columns_added is = same_added kept has_more (Along axis.Y) Chains (λ part columns. subst (λ way. AreWayChains edges cone limit over low high way part) (sym is) columns) kept' more
+  columns_added is = same_added kept has_more (Along axis.Y) Chains (λ part columns. subst (λ way. AreWayChains IsGood IsWay depth over low high way part) (sym is) columns) kept' more
 
   pub rows_and_columns_added : (between : List (List GridNode)) (so_far : Bool) → way ≡ ways.Both → IsGrown (Along axis.X) kept has_more between so_far
       → IsGrown (Along axis.Y) between so_far kept' more → IsGrown Chains kept has_more kept' more
   rows_and_columns_added between so_far is rows columns =
       same_added kept has_more (AreJoined (Along axis.X) (Along axis.Y)) Chains
-      (λ part both. subst (λ way. AreWayChains edges cone limit over low high way part) (sym is) (record {
+      (λ part both. subst (λ way. AreWayChains IsGood IsWay depth over low high way part) (sym is) (record {
         first = both.first;
         second = both.second;
         joined = both.joined;

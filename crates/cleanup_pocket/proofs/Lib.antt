@@ -1,8 +1,10 @@
 -- The lemmas of the crate.
 pub mod Ahead
 pub mod Axes
+pub mod Floored
 pub mod Growing
 pub mod Lines
+pub mod Near
 pub mod Places
 pub mod Runs
 pub mod Shifted

@@ -1,18 +1,16 @@
 -- The chains of one line, run by run, and where its good places are.
 use Rattle.std.specs.Prelude.{All}
-use Rattle.std.proofs.Common.{◌≡◌, ℕ, ◌<◌, ◌≤◌, Bool, List, [], ◌∷◌, ◌++◌, map, ℤ, pos, ◌+ℤ◌, ◌-ℤ◌, ◌<ℤ◌, arith, refl, ap, subst, sym, ◌∙◌, append_assoc}
+use Rattle.std.proofs.Common.{◌≡◌, ℕ, ◌<◌, Bool, List, [], ◌∷◌, ◌++◌, map, ℤ, pos, ◌+ℤ◌, ◌-ℤ◌, ◌<ℤ◌, arith, refl, ap, subst, sym, ◌∙◌, append_assoc}
 use Rattle.std.proofs.lemmas.Int.{ints, by_lt_z}
 use Rattle.std.proofs.lemmas.List.{map-append}
-use Rattle.plane_exact.specs.Cone.{Cone}
 use Rattle.plane_exact.specs.Nodes.{GridNode}
 use Rattle.plane_exact.specs.Plane.{GridPoint, IsCoordinate, rational}
-use Rattle.plane_exact.specs.declared.point.Seg.{Seg}
 use Rattle.engrave_model.specs.Drawing.{edges_of}
+use Rattle.engrave_model.specs.Inside.{IsInside}
 use Rattle.evenodd_region.specs.Bounds.{IsInBox, points_of}
 use Rattle.evenodd_region.proofs.Bounds.{inside_in_box}
-use Rattle.depth_rule.specs.Deepest.{deepest_of}
 use Rattle.cleanup_pocket.specs.Kept.{IsGrown, IsKept}
-use Rattle.cleanup_pocket.specs.Pocket.{AreLineChains, IsGood, IsJoined, chain_along, place_of, point_on}
+use Rattle.cleanup_pocket.specs.Floors.{AreLineChains, IsJoinedBy, OfPlaces, chain_along, place_of, point_on}
 use Rattle.cleanup_pocket.specs.Runs.{Run}
 use Rattle.cleanup_pocket.specs.Walk.{IsBounded, IsNoneGood, IsRunFrom}
 use Rattle.cleanup_pocket.specs.declared.axis.Axis.{Axis}
@@ -20,42 +18,42 @@ use Rattle.cleanup_pocket.specs.declared.axis.Axis.TheVariants as axis
 use Rattle.cleanup_pocket.proofs.Ahead.{inner_on}
 use Rattle.cleanup_pocket.proofs.Places.{fewer, places_between}
 use Rattle.cleanup_pocket.proofs.Runs.{AreRunsBefore, all_before, one_before, runs_from}
-use Rattle.cleanup_pocket.proofs.Skips.{good_inside}
 
 -- ---- the box
 
-module _ (loops : List (List GridPoint)) (cone : Cone) (limit : ℕ) (low high : GridPoint) (box : All (IsInBox low high) (points_of loops)) (deep : 1 ≤ deepest_of cone limit) where
+module _ (loops : List (List GridPoint)) (IsGood : OfPlaces) (low high : GridPoint) (box : All (IsInBox low high) (points_of loops))
+    (inside : (axis : Axis) (line place : ℤ) → IsGood axis line place → IsInside (edges_of loops) (rational (point_on axis line place))) where
   -- of each line the good places are within the box
-  pub bounded_by : (axis : Axis) (line : ℤ) → IsBounded (IsGood (edges_of loops) cone limit axis line) (place_of axis low) (place_of axis high)
+  pub bounded_by : (axis : Axis) (line : ℤ) → IsBounded (IsGood axis line) (place_of axis low) (place_of axis high)
   bounded_by axis.X line place good =
-      let inner = inside_in_box loops low high (rational (point_on axis.X line place)) box (good_inside loops cone limit axis.X line deep place good) in
+      let inner = inside_in_box loops low high (rational (point_on axis.X line place)) box (inside axis.X line place good) in
       let left = inner.left in
       let right = inner.right in
       record { from = omega (arith, ints); to = omega (arith, ints) }
   bounded_by axis.Y line place good =
-      let inner = inside_in_box loops low high (rational (point_on axis.Y line place)) box (good_inside loops cone limit axis.Y line deep place good) in
+      let inner = inside_in_box loops low high (rational (point_on axis.Y line place)) box (inside axis.Y line place good) in
       let bottom = inner.bottom in
       let top = inner.top in
       record { from = omega (arith, ints); to = omega (arith, ints) }
 
   -- by the line's own numbers
-  pub bounded_line : (axis a : Axis) (line from to : ℤ) → a ≡ axis → from ≡ place_of axis low → to ≡ place_of axis high → IsBounded (IsGood (edges_of loops) cone limit a line) from to
+  pub bounded_line : (axis a : Axis) (line from to : ℤ) → a ≡ axis → from ≡ place_of axis low → to ≡ place_of axis high → IsBounded (IsGood a line) from to
   bounded_line axis a line from to along from_is to_is =
-      subst (λ a. IsBounded (IsGood (edges_of loops) cone limit a line) from to) (sym along)
-      (subst (λ to. IsBounded (IsGood (edges_of loops) cone limit axis line) from to) (sym to_is)
-      (subst (λ from. IsBounded (IsGood (edges_of loops) cone limit axis line) from (place_of axis high)) (sym from_is) (bounded_by axis line)))
+      subst (λ a. IsBounded (IsGood a line) from to) (sym along)
+      (subst (λ to. IsBounded (IsGood axis line) from to) (sym to_is)
+      (subst (λ from. IsBounded (IsGood axis line) from (place_of axis high)) (sym from_is) (bounded_by axis line)))
 
 -- ---- the runs of a line
 
-module _ (edges : List Seg) (cone : Cone) (limit : ℕ) (axis : Axis) (line : ℤ) where
+module _ (IsGood IsWay : OfPlaces) (depth : ℕ) (axis : Axis) (line : ℤ) where
   abbrev Good : ℤ → Type 0
-  Good place = IsGood edges cone limit axis line place
+  Good place = IsGood axis line place
 
   abbrev Joined : ℤ → Type 0
-  Joined place = IsJoined edges cone limit axis line place
+  Joined place = IsJoinedBy IsGood IsWay axis line place
 
   abbrev chain : Run → List GridNode
-  chain run = chain_along axis line (deepest_of cone limit) run
+  chain run = chain_along axis line depth run
 
   -- the last place of a run is good
   pub last_good : (x : ℤ) (run : Run) → IsRunFrom Good Joined x run → Good run.last
@@ -109,7 +107,7 @@ module _ (edges : List Seg) (cone : Cone) (limit : ℕ) (axis : Axis) (line : �
     }
 
     pub runs_ended : (x : ℤ) (kept' : List (List GridNode)) (more : Bool) → ((t : ℤ) → t <ℤ start → ¬ Good t) → IsNoneGood Good x
-        → AreRunsKept start x kept has_more kept' more → IsGrown (AreLineChains edges cone limit axis line) kept has_more kept' more
+        → AreRunsKept start x kept has_more kept' more → IsGrown (AreLineChains IsGood IsWay depth axis line) kept has_more kept' more
     runs_ended x kept' more low none far = record {
       part = map chain far.runs;
       is = record {

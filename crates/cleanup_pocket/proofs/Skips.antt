@@ -1,9 +1,8 @@
 -- What a walk along a line may skip: places that aren't good, by how shallow one of them is or how far outside, and good ones, by how
 -- far an edge is.
-use Rattle.std.proofs.Common.{◌≡◌, inl, inr, ℕ, zero, suc, ◌+◌, ◌*◌, ◌≤◌, ◌<◌, List, [], ◌∷◌, ℤ, pos, negsuc, neg_ℤ, ◌+ℤ◌, ◌-ℤ◌, ◌*ℤ◌, ◌≤ℤ◌, ◌<ℤ◌, ◌↔◌, arith, refl, ap, subst, ◌∙◌}
+use Rattle.std.proofs.Common.{◌≡◌, inl, inr, ℕ, zero, suc, ◌+◌, ◌*◌, ◌≤◌, ◌<◌, List, [], ◌∷◌, ℤ, pos, negsuc, neg_ℤ, ◌+ℤ◌, ◌-ℤ◌, ◌*ℤ◌, ◌≤ℤ◌, ◌<ℤ◌, arith, refl, ap, subst, ◌∙◌}
 use Rattle.std.proofs.lemmas.Int.{ints}
 use Rattle.std.proofs.Math.Nat.{lt_of_mul-lt-mul_left, mul-le-mul_left, mul-pos}
-use Rattle.integer_algebra.specs.Ranges.{IsUpTo}
 use Rattle.plane_exact.specs.declared.point.Seg.{Seg}
 use Rattle.integer_algebra.proofs.Order.{cancel_lt, times_le, times_nonneg, times_pos}
 use Rattle.integer_algebra.proofs.Ring.{ring, V, K, M, ◌⊕◌, ◌⊖◌, ◌⊗◌}
@@ -14,10 +13,8 @@ use Rattle.plane_exact.specs.Plane.{GridPoint, RationalPoint, rational}
 use Rattle.plane_exact.specs.declared.moves.Move.{Move}
 use Rattle.engrave_model.specs.Depth.{IsClearDepth, IsDiscClear, IsGreatestDepth, IsInDisc}
 use Rattle.engrave_model.specs.Drawing.{edges_of}
-use Rattle.engrave_model.specs.Inside.{IsInside, IsOnOutline}
+use Rattle.engrave_model.specs.Inside.{IsInside}
 use Rattle.engrave_model.specs.Removal.{IsRemoved, Moment, depth_at, place_at}
-use Rattle.evenodd_region.proofs.Discs.{centre_closer, way_closer}
-use Rattle.evenodd_region.proofs.Rounds.{parity}
 use Rattle.swept_move.specs.Clear.{IsClear}
 use Rattle.swept_move.specs.Clear.{tenfold as tenfold_point}
 use Rattle.engrave_model.specs.Removal.{tenfold as tenfold_place}
@@ -26,9 +23,11 @@ use Rattle.depth_rule.specs.Clearance.{IsClearance}
 use Rattle.depth_rule.specs.Deepest.{deepest_of}
 use Rattle.depth_rule.proofs.DeepestDepths.{deepest_allowed, deepest_greatest, deepest_narrow}
 use Rattle.depth_rule.proofs.Exact.{safe_is_clear}
-use Rattle.cleanup_pocket.specs.Pocket.{IsGood, IsJoined, node_on, point_on}
+use Rattle.cleanup_pocket.specs.Floors.{IsJoinedBy, node_on, point_on}
+use Rattle.cleanup_pocket.specs.Pocket.{IsClearWay, IsGood}
 use Rattle.cleanup_pocket.specs.declared.axis.Axis.{Axis}
 use Rattle.cleanup_pocket.specs.declared.axis.Axis.TheVariants as axis
+use Rattle.cleanup_pocket.proofs.Near.{beside_back, beside_on, near_off, near_same, same_side, up_to, up_to_back}
 use Rattle.cleanup_pocket.proofs.Shifted.{IsBeside, IsReaching, closer_beside}
 
 -- ---- numbers
@@ -108,14 +107,6 @@ undo_tenfold r o a b x y close =
 
 -- ---- places of a line
 
-beside_on : (axis : Axis) (line place n : ℤ) → IsBeside (rational (point_on axis line (place +ℤ n))) (point_on axis line place) n
-beside_on axis.X line place n = inl (omega (arith, ints), omega (arith, ints))
-beside_on axis.Y line place n = inr (omega (arith, ints), omega (arith, ints))
-
-beside_back : (axis : Axis) (line place n : ℤ) → IsBeside (rational (point_on axis line place)) (point_on axis line (place +ℤ n)) (neg_ℤ n)
-beside_back axis.X line place n = inl (omega (arith, ints), omega (arith, ints))
-beside_back axis.Y line place n = inr (omega (arith, ints), omega (arith, ints))
-
 -- how far in tenths a moment of the move from the place behind n others is from the first, times the moment's n
 abbrev gone : Moment → ℕ → ℤ
 gone s n = pos 10 *ℤ (s.n *ℤ pos n +ℤ s.k)
@@ -151,18 +142,7 @@ tenths_deep (suc n) =
     let is : pos 10 *ℤ neg_ℤ (pos (suc n)) ≡ negsuc (10 * n + 9) = omega (arith, ints) in
     ap depth_of is ∙ omega arith
 
--- ---- points nearer than the clearance
-
-module _ (loops : List (List GridPoint)) (p : GridPoint) (r : ℕ) (clear : IsClearance (edges_of loops) p r) where
-  near_same : (w : RationalPoint) → IsCloser (pos r) (pos 1) (rational p) w → IsInside (edges_of loops) (rational p) ↔ IsInside (edges_of loops) w
-  unfolding IsClearance
-  near_same w close = parity loops (rational p) w (λ u on outline. clear u outline (way_closer (pos r) (pos 1) (rational p) w u on close))
-
-  near_off : (w : RationalPoint) → IsCloser (pos r) (pos 1) (rational p) w → ¬ IsOnOutline (edges_of loops) w
-  unfolding IsClearance
-  near_off w close outline = clear w outline close
-
--- ---- the three rules
+-- ---- the rules
 
 module _ (loops : List (List GridPoint)) (cone : Cone) (limit : ℕ) (axis : Axis) (line : ℤ) where
   abbrev edges : List Seg
@@ -176,12 +156,6 @@ module _ (loops : List (List GridPoint)) (cone : Cone) (limit : ℕ) (axis : Axi
 
   abbrev Good : ℤ → Type 0
   Good place = IsGood edges cone limit axis line place
-
-  up_to : (n : ℕ) → IsUpTo (pos n) (pos n)
-  up_to n = record { low = omega (arith, ints); high = omega (arith, ints) }
-
-  up_to_back : (n : ℕ) → IsUpTo (pos n) (neg_ℤ (pos n))
-  up_to_back n = record { low = omega (arith, ints); high = omega (arith, ints) }
 
   module _ (deep : 1 ≤ deepest) where
     -- what is known of a good place
@@ -217,18 +191,6 @@ module _ (loops : List (List GridPoint)) (cone : Cone) (limit : ℕ) (axis : Axi
         })) in
         omega arith
 
-    -- the place n farther is nearer than r
-    place_near : (place : ℤ) (r n : ℕ) → n < r → IsCloser (pos r) (pos 1) (rational (at place)) (rational (at (place +ℤ pos n)))
-    place_near place r n below =
-        closer_beside (pos 1 *ℤ pos 1) (pos 1 *ℤ pos 1) (pos r) (pos 1) (pos n) (pos n) (rational (at (place +ℤ pos n))) (at place) (rational (at (place +ℤ pos n)))
-        (clearance_reaches 1 1 1 r n (omega arith) (omega arith)) (up_to n) (beside_on axis line place (pos n))
-        (centre_closer (pos 1 *ℤ pos 1) (pos 1 *ℤ pos 1) (rational (at (place +ℤ pos n))) (rational (at (place +ℤ pos n))) (omega (arith, ints)) (record { across = refl; up = refl }))
-
-    -- where a place is outside and no edge is near, the next places are outside too
-    pub outside_skip : (place : ℤ) (r n : ℕ) → IsClearance edges (at place) r → ¬ IsInside edges (rational (at place)) → n < r → ¬ Good (place +ℤ pos n)
-    outside_skip place r n clear outside below good =
-        outside ((near_same loops (at place) r clear (rational (at (place +ℤ pos n))) (place_near place r n below)).1 (good_inside (place +ℤ pos n) good))
-
     module _ (steep : 1 ≤ cone.sn) (over : 1 ≤ cone.sd) (place : ℤ) (r : ℕ) (good : Good place) (clear : IsClearance edges (at place) r) where
       disc_near : (n : ℕ) → cone.sd * n + cone.sn * deepest ≤ cone.sd * r → (w : RationalPoint)
           → IsInDisc cone (rational (at (place +ℤ pos n))) (pos deepest) (pos 1) w → IsCloser (pos r) (pos 1) (rational (at place)) w
@@ -249,7 +211,7 @@ module _ (loops : List (List GridPoint)) (cone : Cone) (limit : ℕ) (axis : Axi
         fits = inr (record {
           narrow = deepest_narrow cone limit;
           allowed = deepest_allowed cone limit;
-          inside = (near_same loops (at place) r clear (rational (at (place +ℤ pos n))) (place_near place r n (nearer n reach))).0 (good_inside place good);
+          inside = (same_side loops axis line place r clear n (nearer n reach)).0 (good_inside place good);
           clear = disc_off n reach;
         });
         greatest = λ y fits. elim fits [ inl none ↦ omega arith | inr depth ↦ deepest_greatest cone limit steep y depth.allowed depth.narrow ];
@@ -285,11 +247,11 @@ module _ (loops : List (List GridPoint)) (cone : Cone) (limit : ℕ) (axis : Axi
           (λ s w removed. (near_same loops (at place) r clear w (removed_near n reach s w removed)).0 (good_inside place good))
 
       -- and joined
-      pub wide_joined : (n : ℕ) → cone.sd * suc n + cone.sn * deepest ≤ cone.sd * r → IsJoined edges cone limit axis line (place +ℤ pos n)
+      pub wide_joined : (n : ℕ) → cone.sd * suc n + cone.sn * deepest ≤ cone.sd * r → IsJoinedBy (IsGood edges cone limit) (IsClearWay edges cone limit) axis line (place +ℤ pos n)
       wide_joined n reach = record {
         this = wide_good n (omega arith);
         next = subst Good (next_place place n) (wide_good (suc n) reach);
-        clear = step_clear n reach;
+        way = step_clear n reach;
       }
         where
           next_place : (place : ℤ) (n : ℕ) → place +ℤ pos (suc n) ≡ place +ℤ pos n +ℤ pos 1

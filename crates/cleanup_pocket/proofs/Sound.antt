@@ -18,7 +18,8 @@ use Rattle.swept_move.proofs.Moves.{run_is_clear}
 use Rattle.depth_rule.specs.Along.{IsSound, move_between}
 use Rattle.depth_rule.specs.Deepest.{deepest_of}
 use Rattle.cleanup_pocket.specs.Law.{PocketLaw}
-use Rattle.cleanup_pocket.specs.Pocket.{AreAxisChains, AreLineChains, AreWayChains, IsGood, IsJoined, chain_along, node_on}
+use Rattle.cleanup_pocket.specs.Floors.{AreAxisChains, AreLineChains, AreWayChains, IsJoinedBy, chain_along, node_on}
+use Rattle.cleanup_pocket.specs.Pocket.{IsClearWay, IsGood}
 use Rattle.cleanup_pocket.specs.Runs.{IsLongest, Run}
 use Rattle.cleanup_pocket.specs.declared.axis.Axis.{Axis}
 use Rattle.cleanup_pocket.specs.declared.axis.Axis.TheVariants as axis
@@ -85,15 +86,15 @@ module _ (edges : List Seg) (cone : Cone) (limit : ℕ) (axis : Axis) (line : �
   abbrev IsClearTo : GridPoint → GridPoint → Type 0
   IsClearTo p q = IsClear edges cone (level_move height p q)
 
-  neighbours : (place : ℤ) (n : ℕ) → ((t : ℤ) → place ≤ℤ t → t <ℤ (place +ℤ pos n) → IsJoined edges cone limit axis line t)
+  neighbours : (place : ℤ) (n : ℕ) → ((t : ℤ) → place ≤ℤ t → t <ℤ (place +ℤ pos n) → IsJoinedBy (IsGood edges cone limit) (IsClearWay edges cone limit) axis line t)
       → AllNeighbours IsClearTo (at place) (stops place n)
   neighbours place zero joined = tt
   neighbours place (suc n) joined =
-      ((joined place (omega (arith, ints)) (omega (arith, ints))).clear, neighbours (place +ℤ pos 1) n (λ t from to. joined t (omega (arith, ints)) (omega (arith, ints))))
+      ((joined place (omega (arith, ints)) (omega (arith, ints))).way, neighbours (place +ℤ pos 1) n (λ t from to. joined t (omega (arith, ints)) (omega (arith, ints))))
 
   -- the one move along a run of several places is clear
   pub run_clear : 1 ≤ cone.sn → (first last : ℤ) → first <ℤ last
-      → ((t : ℤ) → first ≤ℤ t → t <ℤ last → IsJoined edges cone limit axis line t) → IsClear edges cone (move_between (node first) (node last))
+      → ((t : ℤ) → first ≤ℤ t → t <ℤ last → IsJoinedBy (IsGood edges cone limit) (IsClearWay edges cone limit) axis line t) → IsClear edges cone (move_between (node first) (node last))
   run_clear some first last before joined =
       let way = behind (first +ℤ pos 1) last (omega (arith, ints)) in
       let n = way.steps in
@@ -106,7 +107,7 @@ module _ (edges : List Seg) (cone : Cone) (limit : ℕ) (axis : Axis) (line : �
   Fitting : GridNode → Type 0
   Fitting node = Fits edges cone limit node.at node.depth
 
-  chain_sound : 1 ≤ cone.sn → (run : Run) → IsLongest (IsGood edges cone limit axis line) (IsJoined edges cone limit axis line) run
+  chain_sound : 1 ≤ cone.sn → (run : Run) → IsLongest (IsGood edges cone limit axis line) (IsJoinedBy (IsGood edges cone limit) (IsClearWay edges cone limit) axis line) run
       → IsSound edges cone limit (chain_along axis line deepest run)
   unfolding Fitting
   chain_sound some run longest = by_test (int_lt run.first run.last) refl
@@ -132,13 +133,13 @@ module _ (edges : List Seg) (cone : Cone) (limit : ℕ) (some : 1 ≤ cone.sn) w
   abbrev AreSound : List (List GridNode) → Type 0
   AreSound chains = All (IsSound edges cone limit) chains
 
-  line_sound : (axis : Axis) (line : ℤ) (chains : List (List GridNode)) → AreLineChains edges cone limit axis line chains → AreSound chains
+  line_sound : (axis : Axis) (line : ℤ) (chains : List (List GridNode)) → AreLineChains (IsGood edges cone limit) (IsClearWay edges cone limit) (deepest_of cone limit) axis line chains → AreSound chains
   line_sound axis line chains of_line =
       subst AreSound (sym of_line.along)
       (All-map (IsSound edges cone limit) (chain_along axis line (deepest_of cone limit)) of_line.runs
       (All-weaker _ _ (chain_sound edges cone limit axis line some) of_line.runs of_line.are_runs.each))
 
-  joined_sound : (axis : Axis) (lines : List ℤ) (parts : List (List (List GridNode))) → AllZip (AreLineChains edges cone limit axis) lines parts
+  joined_sound : (axis : Axis) (lines : List ℤ) (parts : List (List (List GridNode))) → AllZip (AreLineChains (IsGood edges cone limit) (IsClearWay edges cone limit) (deepest_of cone limit) axis) lines parts
       → AreSound (joined parts)
   joined_sound axis [] [] each = All-nil (IsSound edges cone limit)
   joined_sound axis [] (part ∷ parts) each = absurd each
@@ -146,10 +147,10 @@ module _ (edges : List Seg) (cone : Cone) (limit : ℕ) (some : 1 ≤ cone.sn) w
   joined_sound axis (line ∷ lines) (part ∷ parts) each =
       All-append (IsSound edges cone limit) part (joined parts) (line_sound axis line part each.0) (joined_sound axis lines parts each.1)
 
-  axis_sound : (over : ℕ) (low high : GridPoint) (axis : Axis) (chains : List (List GridNode)) → AreAxisChains edges cone limit over low high axis chains → AreSound chains
+  axis_sound : (over : ℕ) (low high : GridPoint) (axis : Axis) (chains : List (List GridNode)) → AreAxisChains (IsGood edges cone limit) (IsClearWay edges cone limit) (deepest_of cone limit) over low high axis chains → AreSound chains
   axis_sound over low high axis chains of_axis = subst AreSound (sym of_axis.are) (joined_sound axis of_axis.lines of_axis.parts of_axis.each)
 
-  way_sound : (over : ℕ) (low high : GridPoint) (way : Way) (chains : List (List GridNode)) → AreWayChains edges cone limit over low high way chains → AreSound chains
+  way_sound : (over : ℕ) (low high : GridPoint) (way : Way) (chains : List (List GridNode)) → AreWayChains (IsGood edges cone limit) (IsClearWay edges cone limit) (deepest_of cone limit) over low high way chains → AreSound chains
   way_sound over low high way.X chains of_way = axis_sound over low high axis.X chains of_way
   way_sound over low high way.Y chains of_way = axis_sound over low high axis.Y chains of_way
   way_sound over low high way.Both chains of_way =

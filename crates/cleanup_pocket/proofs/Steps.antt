@@ -18,7 +18,8 @@ use Rattle.depth_rule.specs.Along.{move_between}
 use Rattle.depth_rule.specs.Deepest.{deepest_of}
 use Rattle.depth_rule.proofs.DeepestDepths.{deepest_allowed, deepest_greatest, deepest_narrow}
 use Rattle.depth_rule.proofs.Safety.{clear_is_safe}
-use Rattle.cleanup_pocket.specs.Pocket.{IsGood, IsJoined, node_on, point_on}
+use Rattle.cleanup_pocket.specs.Floors.{IsJoinedBy, node_on, point_on}
+use Rattle.cleanup_pocket.specs.Pocket.{IsClearWay, IsGood}
 use Rattle.cleanup_pocket.specs.declared.axis.Axis.{Axis}
 
 -- the depth at the last moment, in tenths
@@ -89,7 +90,7 @@ module _ (loops : List (List GridPoint)) (cone : Cone) (limit : ℕ) (deep : 1 �
   -- so a good place is joined to the next exactly where the move there is clear
   pub joined_by : (axis : Axis) (line place : ℤ) (depth : ℕ) (mv : Move) (answer : Bool) → depth ≡ deepest
       → mv ≡ move_between (node_on axis line depth place) (node_on axis line depth (place +ℤ pos 1)) → IsGood (edges_of loops) cone limit axis line place
-      → IsTrue answer ↔ IsClear (edges_of loops) cone mv → IsTrue answer ↔ IsJoined (edges_of loops) cone limit axis line place
+      → IsTrue answer ↔ IsClear (edges_of loops) cone mv → IsTrue answer ↔ IsJoinedBy (IsGood (edges_of loops) cone limit) (IsClearWay (edges_of loops) cone limit) axis line place
   joined_by axis line place depth mv answer is moves good test =
       let same : mv ≡ move (point_on axis line place) (point_on axis line (place +ℤ pos 1)) =
       moves ∙ ap (λ z. move_between (node_on axis line z place) (node_on axis line z (place +ℤ pos 1))) is in (
@@ -101,7 +102,7 @@ module _ (loops : List (List GridPoint)) (cone : Cone) (limit : ℕ) (deep : 1 �
                 fits = inr (ends_deep (point_on axis line place) (point_on axis line (place +ℤ pos 1)) clear);
                 greatest = λ y fits. elim fits [ inl none ↦ omega arith | inr depth ↦ deepest_greatest cone limit steep y depth.allowed depth.narrow ];
               };
-              clear = clear;
+              way = clear;
             },
-        λ joined. test.1 (subst (IsClear (edges_of loops) cone) (sym same) joined.clear),
+        λ joined. test.1 (subst (IsClear (edges_of loops) cone) (sym same) joined.way),
       )

@@ -8,7 +8,7 @@ use Rattle.plane_exact.specs.declared.moves.Move.{Move}
 use Rattle.depth_rule.specs.Along.{move_between}
 use Rattle.plane_exact.specs.Plane.{GridPoint, IsCoordinate}
 use Rattle.plane_exact.proofs.Stored.{IsStored, fits_up_to, narrow, stored}
-use Rattle.cleanup_pocket.specs.Pocket.{node_on, point_on}
+use Rattle.cleanup_pocket.specs.Floors.{node_on, point_on}
 use Rattle.cleanup_pocket.specs.declared.axis.Axis.{Axis}
 
 pub place_read : (z : ℤ) → IsCoordinate z → narrow z ≡ z
@@ -37,7 +37,7 @@ step_read z n on few =
     (fits_up_to w32 65535 (z +ℤ pos n) (omega arith) (record { low = omega (arith, ints); high = omega (arith, ints) }))
 
 module _ (z high : ℤ) (on : IsCoordinate z) (end : IsCoordinate high) (before : z <ℤ high) where
-  next_read : narrow (narrow z +ℤ pos 1) ≡ z +ℤ pos 1
+  pub next_read : narrow (narrow z +ℤ pos 1) ≡ z +ℤ pos 1
   next_read =
       let low = on.low in
       let most = end.high in

@@ -1,5 +1,6 @@
 -- The definitions of the crate.
 pub mod Fault
+pub mod Floors
 pub mod Kept
 pub mod Law
 pub mod Pocket

@@ -1,18 +1,18 @@
-// The chains of a pocket as they come, line by line.
+// The chains of a floor as they come, line by line.
 ghost use Rattle.std.specs.Prelude.{◌≡◌, ◌≤◌, ◌∷◌, [], ◌*◌, ℤ, pos, ◌+ℤ◌, MatchOption, OnOk};
 ghost use Rattle.plane_exact.specs.Cone.{IsFromOneTo};
 ghost use Rattle.plane_exact.specs.Plane.{IsCoordinate};
-ghost use Rattle.engrave_model.specs.Drawing.{edges_of};
 ghost use Rattle.evenodd_region.specs.Bounds.{IsBoxOf, points_of};
 ghost use Rattle.depth_rule.specs.Ticks.{AreTicks};
 ghost use Rattle.cleanup_pocket.specs.Kept.{IsGrown};
-ghost use Rattle.cleanup_pocket.specs.Pocket.{AreAxisChains, AreLineChains, AreWayChains, IsGood, IsLine, chain_along, line_of};
+ghost use Rattle.cleanup_pocket.specs.Floors.{AreAxisChains, AreLineChains, AreWayChains, IsLine, chain_along, line_of};
 ghost use Rattle.cleanup_pocket.specs.Walk.{IsBounded};
 
 use crate::axis::{Axis, Way};
 use crate::floor::Floor;
 use crate::line::{Line, Run, line_of};
 use crate::pockets::MOST_OVER;
+use crate::walk::next_run;
 use depth_rule::{Bounds, Ticks, ticks_between};
 use plane_exact::{Chain, MOST_CHAINS, MOST_DEPTH};
 use std::alloc::{AllocError, Global};
@@ -27,17 +27,17 @@ pub struct Kept {
 
 impl Kept {
     /// Adds the chains of the lines through the box that have a multiple of `over` as their coordinate: rows, columns, or both.
-    pub fn add_way(
+    pub fn add_way<F: Floor>(
         &mut self,
         alloc: Global,
-        floor: &Floor<'_>,
+        floor: &F,
         bounds: &Bounds,
         over: u32,
         way: Way,
     ) -> Result<(), AllocError>
         requires over { IsFromOneTo MOST_OVER over }
-        requires bounds { IsBoxOf (points_of floor.now.scene.now) bounds.now.low bounds.now.high }
-        ensures { OnOk result (IsGrown (AreWayChains (edges_of floor.now.scene.now) floor.now.bit.now floor.now.limit over bounds.now.low bounds.now.high way) self.old.chains.items self.old.has_more self.new.chains.items self.new.has_more) }
+        requires bounds { IsBoxOf (points_of (F.loops_of floor.now)) bounds.now.low bounds.now.high }
+        ensures { OnOk result (IsGrown (AreWayChains (F.is_good floor.now) (F.is_way floor.now) (F.depth_of floor.now) over bounds.now.low bounds.now.high way) self.old.chains.items self.old.has_more self.new.chains.items self.new.has_more) }
     {
         match way {
             Way::X => self.add_axis(alloc, floor, bounds, over, Axis::X),
@@ -50,17 +50,17 @@ impl Kept {
     }
 
     // Adds the chains of the lines along one axis.
-    fn add_axis(
+    fn add_axis<F: Floor>(
         &mut self,
         alloc: Global,
-        floor: &Floor<'_>,
+        floor: &F,
         bounds: &Bounds,
         over: u32,
         axis: Axis,
     ) -> Result<(), AllocError>
         requires over { IsFromOneTo MOST_OVER over }
-        requires bounds { IsBoxOf (points_of floor.now.scene.now) bounds.now.low bounds.now.high }
-        ensures { OnOk result (IsGrown (AreAxisChains (edges_of floor.now.scene.now) floor.now.bit.now floor.now.limit over bounds.now.low bounds.now.high axis) self.old.chains.items self.old.has_more self.new.chains.items self.new.has_more) }
+        requires bounds { IsBoxOf (points_of (F.loops_of floor.now)) bounds.now.low bounds.now.high }
+        ensures { OnOk result (IsGrown (AreAxisChains (F.is_good floor.now) (F.is_way floor.now) (F.depth_of floor.now) over bounds.now.low bounds.now.high axis) self.old.chains.items self.old.has_more self.new.chains.items self.new.has_more) }
     {
         let Some(ticks) = lines_between(bounds, axis, over) else {
             return Ok(());
@@ -73,13 +73,18 @@ impl Kept {
     }
 
     // Adds the chains along the runs of a line.
-    fn add_line(&mut self, alloc: Global, floor: &Floor<'_>, line: &Line) -> Result<(), AllocError>
-        requires { IsBounded (IsGood (edges_of floor.now.scene.now) floor.now.bit.now floor.now.limit line.now.axis line.now.at) line.now.low line.now.high }
-        ensures { OnOk result (IsGrown (AreLineChains (edges_of floor.now.scene.now) floor.now.bit.now floor.now.limit line.now.axis line.now.at) self.old.chains.items self.old.has_more self.new.chains.items self.new.has_more) }
+    fn add_line<F: Floor>(
+        &mut self,
+        alloc: Global,
+        floor: &F,
+        line: &Line,
+    ) -> Result<(), AllocError>
+        requires { IsBounded (F.is_good floor.now line.now.axis line.now.at) line.now.low line.now.high }
+        ensures { OnOk result (IsGrown (AreLineChains (F.is_good floor.now) (F.is_way floor.now) (F.depth_of floor.now) line.now.axis line.now.at) self.old.chains.items self.old.has_more self.new.chains.items self.new.has_more) }
     {
         let mut from = line.low;
-        while let Some(run) = floor.next_run(line, from) {
-            self.add_run(alloc, line, run, floor.deepest)?;
+        while let Some(run) = next_run(floor, line, from) {
+            self.add_run(alloc, line, run, floor.depth())?;
             from = run.behind();
         }
         Ok(())

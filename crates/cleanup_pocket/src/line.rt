@@ -2,7 +2,7 @@
 ghost use Rattle.std.specs.Prelude.{◌≡◌, ◌≤◌, pos, ◌+ℤ◌, ◌<ℤ◌, ◌≤ℤ◌, IfOk};
 ghost use Rattle.plane_exact.specs.Plane.{IsCoordinate, IsOnGrid};
 ghost use Rattle.depth_rule.specs.Along.{move_between};
-ghost use Rattle.cleanup_pocket.specs.Pocket.{chain_along, line_of, node_on, place_of, point_on};
+ghost use Rattle.cleanup_pocket.specs.Floors.{chain_along, line_of, node_on, place_of, point_on};
 
 use crate::axis::Axis;
 use depth_rule::Bounds;

@@ -6,9 +6,9 @@ ghost use Rattle.cleanup_pocket.specs.Fault.{IsPocketFault};
 ghost use Rattle.cleanup_pocket.specs.Pocket.{IsPocket};
 
 use crate::axis::Way;
+use crate::chains::floor_chains;
+use crate::deep::PocketFloor;
 use crate::fault::PocketFault;
-use crate::floor::Floor;
-use crate::kept::Kept;
 use depth_rule::{Scene, deepest};
 use plane_exact::{Bit, Chain, MOST_DEPTH};
 use std::alloc::Global;
@@ -40,25 +40,14 @@ pub fn pocket(
     ensures few { IfOk result (λ chains. length chains.items ≤ MOST_CHAINS) }
 {
     let deepest = deepest(bit, limit);
-    let Some(bounds) = scene.bounds() else {
-        return Ok(Vec::new(alloc));
-    };
     if deepest == 0 {
         return Ok(Vec::new(alloc));
     }
-    let floor = Floor {
+    let floor = PocketFloor {
         scene,
         bit,
         limit,
         deepest,
     };
-    let mut kept = Kept {
-        chains: Vec::new(alloc),
-        has_more: false,
-    };
-    kept.add_way(alloc, &floor, &bounds, over, way)?;
-    if kept.has_more {
-        return Err(PocketFault::TooMany);
-    }
-    Ok(kept.chains)
+    floor_chains(alloc, &floor, over, way)
 }

@@ -3,11 +3,12 @@ use Rattle.std.specs.Prelude.{◌↔◌, List, []}
 use Rattle.std.proofs.Common.{◌≡◌, ℕ, ◌*◌, ◌<◌, ◌≤◌, refl, subst, arith}
 use Rattle.plane_exact.specs.Cone.{Cone}
 use Rattle.plane_exact.specs.Plane.{GridPoint}
-use Rattle.plane_exact.specs.Uncut.{GridRun}
+use Rattle.plane_exact.specs.Uncut.{GridRun, UncutPoints}
 use Rattle.plane_exact.specs.declared.moves.LineMove.{LineMove}
+use Rattle.coverage_report.specs.Cuts.{IsCut}
 use Rattle.coverage_report.specs.Lattices.{IsInRows, PointLattice}
 use Rattle.coverage_report.specs.Points.{IsCount, IsMarkedPoint, IsUncutPoint}
-use Rattle.coverage_report.specs.Report.{AreFew, AreMany, IsReportOf}
+use Rattle.coverage_report.specs.Report.{AreFew, AreMany, IsReportBy, IsReportOf}
 use Rattle.coverage_report.specs.Runs.{AreMaximal, AreRunsOf}
 use Rattle.coverage_report.specs.Taken.{AreRowsTaken, IsAmong, IsLeft}
 use Rattle.coverage_report.specs.declared.cover.TheConstants.{MOST_POINTS}
@@ -24,7 +25,7 @@ module _ (IsReported : GridPoint → Type 0) where
   nothing_reported IsMarked cone moves pitch none = record {
     few = record { count = 0; is = none_count none; few = omega arith };
     points = [];
-    all = none_all (IsUncutPoint IsReported IsMarked cone moves) (λ p of. none p of.marked.reported);
+    all = none_all (IsUncutPoint IsReported IsMarked (IsCut cone moves)) (λ p of. none p of.marked.reported);
     runs = refl;
     maximal = tt;
     left = refl;
@@ -52,7 +53,7 @@ module _ (IsReported : GridPoint → Type 0) where
     all_reported IsMarked cone moves pitch runs drawing left same few taken = record {
       few = few_points few;
       points = taken.points;
-      all = same_all (IsAmong lattice lattice.rows (IsLeft IsMarked cone moves)) (IsUncutPoint IsReported IsMarked cone moves) taken.points taken.all_left.all
+      all = same_all (IsAmong lattice lattice.rows (IsLeft IsMarked cone moves)) (IsUncutPoint IsReported IsMarked (IsCut cone moves)) taken.points taken.all_left.all
           (λ p among. record { marked = record { reported = (are p).1 among.on; marked = among.so.marked }; spared = among.so.spared })
           (λ p of. record { so = record { marked = of.marked.marked; spared = of.spared }; on = (are p).0 of.marked.reported });
       runs = subst (λ pitch. AreRunsOf pitch runs taken.points) same taken.in_runs;
@@ -66,3 +67,18 @@ module _ (IsReported : GridPoint → Type 0) where
         counted = taken.all_drawn.counted;
       };
     }
+
+-- a report by what cuts a point is one by all else that cuts the same of the marked points
+pub same_report : (IsReported IsMarked IsCut IsCut' : GridPoint → Type 0) (pitch : ℕ) (uncut : UncutPoints)
+    → ((p : GridPoint) → IsReported p → IsMarked p → IsCut p ↔ IsCut' p) → IsReportBy IsReported IsMarked IsCut pitch uncut → IsReportBy IsReported IsMarked IsCut' pitch uncut
+same_report IsReported IsMarked IsCut IsCut' pitch uncut same report = record {
+  few = report.few;
+  points = report.points;
+  all = same_all (IsUncutPoint IsReported IsMarked IsCut) (IsUncutPoint IsReported IsMarked IsCut') report.points report.all
+      (λ p of. record { marked = of.marked; spared = λ cut. of.spared ((same p of.marked.reported of.marked.marked).1 cut) })
+      (λ p of. record { marked = of.marked; spared = λ cut. of.spared ((same p of.marked.reported of.marked.marked).0 cut) });
+  runs = report.runs;
+  maximal = report.maximal;
+  left = report.left;
+  drawing = report.drawing;
+}

@@ -1,11 +1,8 @@
--- The points of a report: which there are, which of them are marked, which of these no move removes, and how many.
-use Rattle.std.specs.Prelude.{◌≡◌, ◌⊎◌, ℕ, List, length, All, AllPairs, Any, Contains, ◌<ℤ◌}
-use Rattle.plane_exact.specs.Cone.{Cone}
+-- The points of a report: which there are, which of them are marked, which of these aren't cut, and how many.
+use Rattle.std.specs.Prelude.{◌≡◌, ◌⊎◌, ℕ, List, length, All, AllPairs, Contains, ◌<ℤ◌}
 use Rattle.plane_exact.specs.Plane.{GridPoint, rational}
-use Rattle.plane_exact.specs.declared.moves.LineMove.{LineMove}
 use Rattle.engrave_model.specs.Drawing.{edges_of}
 use Rattle.engrave_model.specs.Inside.{IsInside}
-use Rattle.engrave_model.specs.Removal.{Removes}
 use Rattle.evenodd_region.specs.Bounds.{IsBoxOf, IsInBox, points_of}
 use Rattle.depth_rule.specs.Ticks.{IsMultiple}
 
@@ -23,10 +20,10 @@ pub record IsMarkedPoint (IsReported IsMarked : GridPoint → Type 0) (p : GridP
   pub reported : IsReported p
   pub marked : IsMarked p
 
--- one of these that no moment of any move removes
-pub record IsUncutPoint (IsReported IsMarked : GridPoint → Type 0) (cone : Cone) (moves : List LineMove) (p : GridPoint) : Type 0 where
+-- one of these that isn't cut
+pub record IsUncutPoint (IsReported IsMarked IsCut : GridPoint → Type 0) (p : GridPoint) : Type 0 where
   pub marked : IsMarkedPoint IsReported IsMarked p
-  pub spared : ¬ Any (λ move. Removes cone move.mv (rational p)) moves
+  pub spared : ¬ IsCut p
 
 -- the drawing holds p
 abbrev pub IsDrawn : List (List GridPoint) → GridPoint → Type 0

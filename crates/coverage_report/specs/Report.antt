@@ -4,6 +4,7 @@ use Rattle.plane_exact.specs.Cone.{Cone}
 use Rattle.plane_exact.specs.Plane.{GridPoint}
 use Rattle.plane_exact.specs.Uncut.{UncutPoints}
 use Rattle.plane_exact.specs.declared.moves.LineMove.{LineMove}
+use Rattle.coverage_report.specs.Cuts.{IsCut}
 use Rattle.coverage_report.specs.Points.{AreAll, IsCount, IsDrawn, IsMarkedPoint, IsReportPoint, IsUncutPoint}
 use Rattle.coverage_report.specs.Runs.{AreMaximal, AreRunsOf}
 use Rattle.coverage_report.specs.declared.cover.TheConstants.{MOST_POINTS}
@@ -22,16 +23,20 @@ pub record AreMany (IsReported : GridPoint → Type 0) : Type 0 where
   pub is : IsCount IsReported count
   pub many : MOST_POINTS < count
 
--- The runs are the maximal runs of the marked points, of those that are reported on, that no moment of any move removes: each of
--- these points in one of them, and no other point. `left` counts these points, and `drawing` all that are marked.
-pub record IsReportOf (IsReported IsMarked : GridPoint → Type 0) (cone : Cone) (moves : List LineMove) (pitch : ℕ) (uncut : UncutPoints) : Type 0 where
+-- The runs are the maximal runs of the marked points, of those that are reported on, that aren't cut: each of these points in one of
+-- them, and no other point. `left` counts these points, and `drawing` all that are marked.
+pub record IsReportBy (IsReported IsMarked IsCut : GridPoint → Type 0) (pitch : ℕ) (uncut : UncutPoints) : Type 0 where
   pub few : AreFew IsReported
   pub points : List GridPoint
-  pub all : AreAll (IsUncutPoint IsReported IsMarked cone moves) points
+  pub all : AreAll (IsUncutPoint IsReported IsMarked IsCut) points
   pub runs : AreRunsOf pitch uncut.runs points
   pub maximal : AreMaximal pitch uncut.runs
   pub left : uncut.left ≡ length points
   pub drawing : IsCount (IsMarkedPoint IsReported IsMarked) uncut.drawing
+
+-- the report by what the moves remove: a point is cut where some moment of some move removes it
+abbrev pub IsReportOf : (IsReported IsMarked : GridPoint → Type 0) → Cone → List LineMove → (pitch : ℕ) → UncutPoints → Type 0
+IsReportOf IsReported IsMarked cone moves pitch uncut = IsReportBy IsReported IsMarked (IsCut cone moves) pitch uncut
 
 -- the report of a drawing has no more points than it may have
 abbrev pub HasFewPoints : List (List GridPoint) → (pitch : ℕ) → Type 0

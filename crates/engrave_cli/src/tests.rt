@@ -8,6 +8,7 @@ mod contacts;
 mod cover;
 mod devices;
 mod evenodd;
+mod flat;
 mod flatten;
 mod large;
 mod lettering;

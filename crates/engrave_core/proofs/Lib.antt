@@ -4,6 +4,7 @@ pub mod CheckedCode
 pub mod ContactLines
 pub mod CoveredCode
 pub mod Done
+pub mod FloorPrograms
 pub mod Guarding
 pub mod JudgedCode
 pub mod RepairedCode

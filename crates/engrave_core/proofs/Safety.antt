@@ -7,8 +7,9 @@ use Rattle.plane_exact.specs.Cone.{Cone}
 use Rattle.shop_port.specs.Output.{Appended}
 use Rattle.engrave_core.specs.Commands.Carve.{job_of, pocket_of}
 use Rattle.engrave_core.specs.Commands.Check.{IsDueOfCheck, IsTrueOfCheck}
+use Rattle.engrave_core.specs.Commands.Flat.{floor_job, lines_of}
 use Rattle.engrave_core.specs.Commands.Strokes.{stroke_job}
-use Rattle.engrave_core.specs.Due.{IsDueOf, IsGoodRepairRun, IsGoodText, IsSafeRun, IsTrueEngraving, IsTrueReport, IsTrueRun}
+use Rattle.engrave_core.specs.Due.{IsDueOf, IsGoodRepairRun, IsGoodText, IsSafeRun, IsTrueEngraving, IsTrueMilling, IsTrueReport, IsTrueRun}
 use Rattle.engrave_core.specs.Given.{cone_of}
 use Rattle.engrave_core.specs.Outcome.{IfAnswered}
 use Rattle.engrave_core.specs.Stored.{Files}
@@ -18,6 +19,7 @@ use Rattle.engrave_core.specs.declared.outcome.Outcome.TheVariants.{Absent, Done
 use Rattle.engrave_core.proofs.CarvedCode.{carved_is_good}
 use Rattle.engrave_core.proofs.CheckedCode.{checked_is_safe, checked_is_true}
 use Rattle.engrave_core.proofs.CoveredCode.{covered_is_told}
+use Rattle.engrave_core.proofs.FloorPrograms.{milled_is_so}
 use Rattle.engrave_core.proofs.RepairedCode.{repaired_is_good}
 use Rattle.engrave_core.proofs.StrokePrograms.{engraved_is_so}
 
@@ -63,6 +65,11 @@ module _ (files : Files) (asked : Option Request) (text : List ℕ) (outcome res
   pub true_engraving : IsDueOf files asked Done text → IsTrueEngraving files asked text
   true_engraving due shape bit rmax depth safe feed pitch is =
       engraved_is_so files shape (stroke_job shape.units (cone_of bit rmax) depth safe feed) depth pitch text (subst (λ a. IsDueOf files a Done text) is due)
+
+  pub true_milling : IsDueOf files asked Done text → IsTrueMilling files asked text
+  true_milling due shape bit rmax radius limit over safe feed pitch lines is =
+      milled_is_so files shape (floor_job shape.units (cone_of bit rmax) limit safe feed) (record { radius = radius; over = over; way = lines_of lines }) pitch text
+      (subst (λ a. IsDueOf files a Done text) is due)
 
   pub written_is_so : (IsSo : List ℕ → Type 0) (old new : Option (List ℕ)) → (IsDueOf files asked Done text → IsSo text)
       → (result ≡ outcome) ⊎ (result ≡ WriteFault) → IfAnswered outcome (IsDueOf files asked outcome text)

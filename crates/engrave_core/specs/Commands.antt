@@ -6,6 +6,7 @@ use Rattle.engrave_core.specs.Commands.Carve.{IsDueOfCarve, IsRefusalOfCarve, jo
 use Rattle.engrave_core.specs.Commands.Check.{IsDueOfCheck, IsRefusalOfCheck}
 use Rattle.engrave_core.specs.Commands.Contacts.{IsDueOfContacts, IsRefusalOfTouching}
 use Rattle.engrave_core.specs.Commands.Cover.{IsDueOfCover, IsRefusalOfCover}
+use Rattle.engrave_core.specs.Commands.Flat.{IsDueOfFlat, IsRefusalOfFlat, floor_job, lines_of}
 use Rattle.engrave_core.specs.Commands.Flatten.{IsDueOfFlatten, IsRefusalOfFlatten}
 use Rattle.engrave_core.specs.Commands.Moves.{IsDueOfMoves, IsRefusalOfMoves}
 use Rattle.engrave_core.specs.Commands.Probe.{IsDueOfProbe, IsRefusalOfProbe}
@@ -19,6 +20,7 @@ pub mod Carve
 pub mod Check
 pub mod Contacts
 pub mod Cover
+pub mod Flat
 pub mod Flatten
 pub mod Moves
 pub mod Probe
@@ -35,6 +37,8 @@ IsDueOfRequest files (request.Contacts shape step rmax) = IsDueOfContacts files 
 IsDueOfRequest files (request.Carve shape bit rmax step limit safe feed pitch lines over) =
     IsDueOfCarve files shape (job_of shape.units (cone_of bit rmax) step limit safe feed) pitch (pocket_of lines over)
 IsDueOfRequest files (request.Cover shape code bit rmax pitch) = IsDueOfCover files shape code (cone_of bit rmax) pitch
+IsDueOfRequest files (request.Flat shape bit rmax radius limit over safe feed pitch lines) =
+    IsDueOfFlat files shape (floor_job shape.units (cone_of bit rmax) limit safe feed) (record { radius = radius; over = over; way = lines_of lines }) pitch
 IsDueOfRequest files (request.Flatten shape) = IsDueOfFlatten files shape
 IsDueOfRequest files (request.Strokes shape bit rmax depth safe feed pitch) =
     IsDueOfStrokes files shape (stroke_job shape.units (cone_of bit rmax) depth safe feed) depth pitch
@@ -49,6 +53,7 @@ IsRefusalOfRequest (request.Check shape code bit rmax) = IsRefusalOfCheck shape
 IsRefusalOfRequest (request.Contacts shape step rmax) = IsRefusalOfTouching shape
 IsRefusalOfRequest (request.Carve shape bit rmax step limit safe feed pitch lines over) = IsRefusalOfCarve shape
 IsRefusalOfRequest (request.Cover shape code bit rmax pitch) = IsRefusalOfCover shape
+IsRefusalOfRequest (request.Flat shape bit rmax radius limit over safe feed pitch lines) = IsRefusalOfFlat shape
 IsRefusalOfRequest (request.Flatten shape) = IsRefusalOfFlatten shape
 IsRefusalOfRequest (request.Strokes shape bit rmax depth safe feed pitch) = IsRefusalOfStrokes shape
 IsRefusalOfRequest (request.Trial count) = IsRefusalOfTrial

@@ -9,6 +9,7 @@ use Rattle.engrave_core.specs.Commands.{IsDueOfRequest, IsRefusalOfRequest}
 use Rattle.engrave_core.specs.Commands.Carve.{StoresWellCarved, job_of}
 use Rattle.engrave_core.specs.Commands.Check.{IsTrueOfCheck, StoresSafeCode}
 use Rattle.engrave_core.specs.Commands.Cover.{StoresCovered}
+use Rattle.engrave_core.specs.Commands.Flat.{StoresMilled, floor_job}
 use Rattle.engrave_core.specs.Commands.Repair.{StoresRepaired}
 use Rattle.engrave_core.specs.Commands.Strokes.{StoresEngraved, stroke_job}
 use Rattle.engrave_core.specs.Given.{Refuses, cone_of}
@@ -74,6 +75,13 @@ IsTrueEngraving files asked text =
     (shape : DrawingWords) (bit : ℕ × ℕ) (rmax depth safe feed pitch : ℕ)
     → asked ≡ Some (request.Strokes shape bit rmax depth safe feed pitch)
     → StoresEngraved files shape (stroke_job shape.units (cone_of bit rmax) depth safe feed) depth pitch text
+
+-- what is known of the text that is written with Done where the request is to mill a floor
+abbrev pub IsTrueMilling : Files → Option Request → List ℕ → Type 0
+IsTrueMilling files asked text =
+    (shape : DrawingWords) (bit : ℕ × ℕ) (rmax radius limit over safe feed pitch : ℕ) (lines : PocketWord)
+    → asked ≡ Some (request.Flat shape bit rmax radius limit over safe feed pitch lines)
+    → StoresMilled files shape (floor_job shape.units (cone_of bit rmax) limit safe feed) radius pitch text
 
 -- what is known of the text that is written with Done where the request is to cover: it is the report on the stored program
 abbrev pub IsTrueReport : Files → Option Request → List ℕ → Type 0

@@ -10,6 +10,7 @@ use Rattle.gcode_text.specs.Moves.{moves_of}
 use Rattle.gcode_text.specs.Path.{chain_moves, closing_text, program_text}
 use Rattle.gcode_text.specs.Report.{report_lines}
 use Rattle.gcode_text.specs.declared.job.Job.{Job}
+use Rattle.gcode_text.specs.declared.report.Subject.TheVariants.{Uncut}
 use Rattle.plane_exact.specs.Nodes.{GridNode}
 use Rattle.plane_exact.specs.Plane.{GridPoint}
 use Rattle.plane_exact.specs.Uncut.{UncutPoints}
@@ -24,7 +25,7 @@ use Rattle.engrave_core.specs.declared.refusal.Refusal.TheVariants.{Input}
 -- the text ends with the report, a note a line, and the program's end
 pub record EndsWith (uncut : UncutPoints) (text : List ℕ) : Type 0 where
   pub front : List ℕ
-  pub is : text ≡ front ++ closing_text (report_lines uncut)
+  pub is : text ≡ front ++ closing_text (report_lines Uncut uncut)
 
 -- The text, read back in the job's units, is a program that is called clear for the drawing; no moment of it removes a point outside;
 -- at each contact some move goes as deep as fits at the centre of its greatest disc; and the points that it prints as uncut are exactly

@@ -36,6 +36,8 @@ use Rattle.carve_plan.specs.declared.fault.PlanFault.{PlanFault}
 use Rattle.carve_plan.specs.declared.fault.PlanFault.TheVariants as plan
 use Rattle.coverage_report.specs.declared.fault.CoverFault.{CoverFault}
 use Rattle.coverage_report.specs.declared.fault.CoverFault.TheVariants as cover
+use Rattle.cleanup_pocket.specs.declared.fault.PocketFault.{PocketFault}
+use Rattle.cleanup_pocket.specs.declared.fault.PocketFault.TheVariants as mill
 use Rattle.code_repair.specs.declared.fault.RepairFault.{RepairFault}
 use Rattle.code_repair.specs.declared.fault.RepairFault.TheVariants as repair
 use Rattle.tangent_disc.specs.declared.contact.ContactFault.{ContactFault}
@@ -140,6 +142,11 @@ abbrev pub repair_refusal : RepairFault → Refusal
 repair_refusal repair.TooMany = refusal.Input (TooMany Moves)
 repair_refusal repair.Memory = refusal.Memory
 
+-- the refusal of the chains of a floor
+abbrev pub mill_refusal : PocketFault → Refusal
+mill_refusal mill.TooMany = refusal.Input (TooMany Chains)
+mill_refusal mill.Memory = refusal.Memory
+
 -- ---- which refusals there are
 
 -- the refusals of a file
@@ -240,6 +247,13 @@ abbrev pub IsRefusalOfReport : Outcome → Type 0
 IsRefusalOfReport (Input (TooMany Points)) = Unit {0}
 IsRefusalOfReport Memory = Unit {0}
 IsRefusalOfReport outcome = ⊥
+
+-- the refusals of milling a floor: of its chains, and of the report on it
+abbrev pub IsRefusalOfMilling : Outcome → Type 0
+IsRefusalOfMilling (Input (TooMany Chains)) = Unit {0}
+IsRefusalOfMilling (Input (TooMany Points)) = Unit {0}
+IsRefusalOfMilling Memory = Unit {0}
+IsRefusalOfMilling outcome = ⊥
 
 -- the refusals of a repair
 abbrev pub IsRefusalOfVisits : Outcome → Type 0

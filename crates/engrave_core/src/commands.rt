@@ -12,6 +12,7 @@ mod carve;
 mod check;
 mod contacts;
 mod cover;
+mod flat;
 mod flatten;
 mod moves;
 mod probe;
@@ -19,6 +20,7 @@ mod repair;
 mod strokes;
 mod trial;
 
+use self::flat::{Milling, lines_of};
 use crate::refusal::Refusal;
 use gcode_text::Job;
 use job_words::{Request, read_words};
@@ -98,6 +100,33 @@ fn run<D: Depot>(alloc: Global, request: &Request, depot: &mut D) -> Result<Vec<
             rmax,
             pitch,
         } => cover::run(alloc, shape, code, &bit_of(*bit, *rmax), *pitch, depot),
+        Request::Flat {
+            shape,
+            bit,
+            rmax,
+            radius,
+            limit,
+            over,
+            safe,
+            feed,
+            pitch,
+            pocket,
+        } => {
+            let job = Job {
+                units: shape.units,
+                safe: *safe,
+                feed: *feed,
+                bit: bit_of(*bit, *rmax),
+                limit: *limit,
+                step: 1,
+            };
+            let milling = Milling {
+                radius: *radius,
+                over: *over,
+                way: lines_of(*pocket),
+            };
+            flat::run(alloc, shape, &job, &milling, *pitch, depot)
+        }
         Request::Flatten { shape } => flatten::run(alloc, shape, depot),
         Request::Strokes {
             shape,

@@ -4,6 +4,7 @@ ghost use Rattle.std.specs.Prelude.{◌≡◌};
 use crate::outcome::{InputFault, Kind, Outcome, Which};
 use crate::stream::StreamFault;
 use carve_plan::PlanFault;
+use cleanup_pocket::PocketFault;
 use code_repair::RepairFault;
 use coverage_report::CoverFault;
 use cxf_font::{CxfFault, CxfKind, LayFault};
@@ -231,6 +232,19 @@ impl From<CoverFault> for Refusal {
         match fault {
             CoverFault::TooManyPoints => Refusal::Input(InputFault::TooMany(Kind::Points)),
             CoverFault::Memory => Refusal::Memory,
+        }
+    }
+}
+
+impl From<PocketFault> for Refusal {
+    ghost use Rattle.engrave_core.specs.Refusals.{mill_refusal};
+
+    ghost from_gives = { λ fault refusal. refusal ≡ mill_refusal fault };
+
+    fn from(fault: PocketFault) -> Refusal {
+        match fault {
+            PocketFault::TooMany => Refusal::Input(InputFault::TooMany(Kind::Chains)),
+            PocketFault::Memory => Refusal::Memory,
         }
     }
 }

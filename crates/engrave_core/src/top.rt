@@ -3,7 +3,7 @@ ghost use Rattle.std.specs.Prelude.{◌≡◌, ◌⊎◌, map, string_bytes, IfS
 ghost use Rattle.job_words.specs.Request.{request_of};
 ghost use Rattle.shop_port.specs.Counts.{Rose};
 ghost use Rattle.shop_port.specs.Output.{Appended, AppendedPart};
-ghost use Rattle.engrave_core.specs.Due.{AsksForNoFile, IsAnswer, IsDue, IsGoodText, IsGoodRepairRun, IsSafeRun, IsTrueEngraving, IsTrueReport, IsTrueRun};
+ghost use Rattle.engrave_core.specs.Due.{AsksForNoFile, IsAnswer, IsDue, IsGoodText, IsGoodRepairRun, IsSafeRun, IsTrueEngraving, IsTrueMilling, IsTrueReport, IsTrueRun};
 ghost use Rattle.engrave_core.specs.Stored.{IsCaused};
 ghost use Rattle.engrave_core.specs.Line.{line_of};
 ghost use Rattle.engrave_core.specs.Outcome.{IfAnswered, IfRefused, HasText};
@@ -53,6 +53,12 @@ pub fn engrave<D: Depot, S: Sink>(
     // of all points, round the strokes at the report's distance.
     ensures engraved { IfSome (D.held depot.old) (λ files. result ≡ Outcome.Done →
         Writes (IsTrueEngraving files (request_of (map string_bytes words.now))) (S.written out.old) (S.written out.new)) }
+
+    // A G-code program that is written for a flat bit removes, at any moment of any move, no other material, at the surface or below it,
+    // than the conical bit might remove from a place inside at an allowed depth without touching an edge. The points of the floor that it
+    // prints as left are exactly those, of the report's distance, that no moment of it at the floor's depth sweeps.
+    ensures milled { IfSome (D.held depot.old) (λ files. result ≡ Outcome.Done →
+        Writes (IsTrueMilling files (request_of (map string_bytes words.now))) (S.written out.old) (S.written out.new)) }
 
     // A G-code program that is repaired is called clear for its drawing and bit, removes no point, at any moment of any move, that the
     // stored one doesn't remove, and has the clear moves of that in their order; none is changed exactly where the stored one is called

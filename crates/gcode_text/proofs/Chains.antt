@@ -13,6 +13,7 @@ use Rattle.gcode_text.specs.Path.{IsJob, ReadBackLaw, TitledLaw, chain_lines, ch
 use Rattle.gcode_text.specs.Report.{report_lines}
 use Rattle.gcode_text.specs.Written.{WrittenLine, Note, IsNote, IsWritten, code_text}
 use Rattle.gcode_text.specs.declared.job.Job.{Job}
+use Rattle.gcode_text.specs.declared.report.Subject.TheVariants.{Uncut}
 use Rattle.gcode_text.specs.declared.written.Motion.TheVariants.{Rapid, Straight}
 use Rattle.gcode_text.proofs.Closing.{report_noted}
 use Rattle.gcode_text.proofs.Growing.{code_text-append}
@@ -115,4 +116,4 @@ titled_read_back title job chains notes is_title is_job are_chains within are_no
 -- that of a job, with its report
 pub read_back : ReadBackLaw
 read_back job chains uncut is_job are_chains within is_report =
-    titled_read_back (job_note job) job chains (report_lines uncut) (job_note_is job) is_job are_chains within (report_noted uncut is_report)
+    titled_read_back (job_note job) job chains (report_lines Uncut uncut) (job_note_is job) is_job are_chains within (report_noted Uncut uncut is_report)

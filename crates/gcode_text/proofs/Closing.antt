@@ -6,10 +6,12 @@ use Rattle.std.proofs.lemmas.List.Elements.{All-map, All-push, All-weaker}
 use Rattle.grid_num.specs.Written.{decimal_text}
 use Rattle.plane_exact.specs.Nodes.{GridNode}
 use Rattle.plane_exact.specs.Uncut.{GridRun, IsRun, UncutPoints}
-use Rattle.gcode_text.specs.Path.{end_line, job_note, path_text, program_text}
-use Rattle.gcode_text.specs.Report.{IsReport, count_line, lines_between, report_lines, run_line}
+use Rattle.gcode_text.specs.Path.{end_line, path_text, titled_text}
+use Rattle.gcode_text.specs.Report.{IsReport, count_line, lines_between, report_lines, run_line, subject_word}
 use Rattle.gcode_text.specs.Written.{Note, IsNote, code_text, is_note_byte}
 use Rattle.gcode_text.specs.declared.job.Job.{Job}
+use Rattle.gcode_text.specs.declared.report.Subject.{Subject}
+use Rattle.gcode_text.specs.declared.report.Subject.TheVariants.{Uncut, Floor}
 use Rattle.gcode_text.proofs.Growing.{titled_written}
 use Rattle.gcode_text.proofs.Readable.{AreBytes, is_note, joined, noted}
 
@@ -25,26 +27,32 @@ signed (negsuc n) =
     let nothing : AreBytes is_note_byte 0 [] = record { each = refl; short = omega arith } in
     joined minus (joined (noted (suc n / 10 ^ 0)) nothing)
 
-run_noted : (run : GridRun) → IsNote (run_line run)
+word_noted : (subject : Subject) → AreBytes is_note_byte 5 (subject_word subject)
+word_noted Uncut = record { each = refl; short = omega arith }
+word_noted Floor = record { each = refl; short = omega arith }
+
+run_noted : (subject : Subject) (run : GridRun) → IsNote (run_line subject run)
 unfolding run_line
-run_noted run =
-    let row : AreBytes is_note_byte 8 (codes "uncut y ") = record { each = refl; short = omega arith } in
+run_noted subject run =
+    let row : AreBytes is_note_byte 3 (codes " y ") = record { each = refl; short = omega arith } in
     let from : AreBytes is_note_byte 3 (codes " x ") = record { each = refl; short = omega arith } in
     let to : AreBytes is_note_byte 4 (codes " to ") = record { each = refl; short = omega arith } in
-    is_note (joined row (joined (signed run.y) (joined from (joined (signed run.x0) (joined to (signed run.x1)))))) (omega arith)
+    is_note (joined (word_noted subject) (joined row (joined (signed run.y) (joined from (joined (signed run.x0) (joined to (signed run.x1))))))) (omega arith)
 
-count_noted : (uncut : UncutPoints) → IsNote (count_line uncut)
+count_noted : (subject : Subject) (uncut : UncutPoints) → IsNote (count_line subject uncut)
 unfolding count_line
-count_noted uncut =
-    let left : AreBytes is_note_byte 6 (codes "uncut ") = record { each = refl; short = omega arith } in
+count_noted subject uncut =
+    let left : AreBytes is_note_byte 1 (codes " ") = record { each = refl; short = omega arith } in
     let of : AreBytes is_note_byte 4 (codes " of ") = record { each = refl; short = omega arith } in
-    is_note (joined left (joined (noted uncut.left) (joined of (noted uncut.drawing)))) (omega arith)
+    is_note (joined (word_noted subject) (joined left (joined (noted uncut.left) (joined of (noted uncut.drawing))))) (omega arith)
 
 -- each line of a report is read as a note
-pub report_noted : (uncut : UncutPoints) → IsReport uncut → All IsNote (report_lines uncut)
-report_noted uncut is =
-    All-push IsNote (map run_line uncut.runs) (count_line uncut) (All-map IsNote run_line uncut.runs (All-weaker (λ run. IsRun run.y run.x0 run.x1) (λ run. IsNote (run_line run)) (λ run on. run_noted run) uncut.runs is.runs))
-    (count_noted uncut)
+pub report_noted : (subject : Subject) (uncut : UncutPoints) → IsReport uncut → All IsNote (report_lines subject uncut)
+report_noted subject uncut is =
+    let line = run_line subject in
+    All-push IsNote (map line uncut.runs) (count_line subject uncut)
+    (All-map IsNote line uncut.runs (All-weaker (λ run. IsRun run.y run.x0 run.x1) (λ run. IsNote (line run)) (λ run on. run_noted subject run) uncut.runs is.runs))
+    (count_noted subject uncut)
 
 -- ---- its text
 
@@ -56,14 +64,15 @@ notes_text (line ∷ lines) =
     ∙ ap (λ text. (40 ∷ ((line ++ 41 ∷ []) ++ 10 ∷ [])) ++ text) (notes_text lines)
 
 -- the text of the runs, one after the other
-pub runs_text : (before behind : List ℕ) (runs : List GridRun) → flat_map (λ run. before ++ (run_line run ++ behind)) runs ≡ lines_between before behind (map run_line runs)
-runs_text before behind [] = refl
-runs_text before behind (run ∷ runs) = ap (λ text. (before ++ (run_line run ++ behind)) ++ text) (runs_text before behind runs)
+pub runs_text : (subject : Subject) (before behind : List ℕ) (runs : List GridRun)
+    → flat_map (λ run. before ++ (run_line subject run ++ behind)) runs ≡ lines_between before behind (map (run_line subject) runs)
+runs_text subject before behind [] = refl
+runs_text subject before behind (run ∷ runs) = ap (λ text. (before ++ (run_line subject run ++ behind)) ++ text) (runs_text subject before behind runs)
 
--- the text of the path, the report and the end is that of the program
-pub program_written : (job : Job) (chains : List (List GridNode)) (uncut : UncutPoints) (title path reported whole : List ℕ) → title ≡ job_note job
-    → path ≡ path_text title job chains → reported ≡ path ++ lines_between (codes "(") (codes ")\n") (report_lines uncut) → whole ≡ reported ++ code_text (end_line ∷ [])
-    → whole ≡ program_text job chains uncut
-program_written job chains uncut title path reported whole title_is path_is reported_is whole_is =
-    titled_written (job_note job) job chains (report_lines uncut) path reported whole (path_is ∙ ap (λ title. path_text title job chains) title_is)
-    (reported_is ∙ ap (λ text. path ++ text) (notes_text (report_lines uncut))) whole_is
+-- the text of the path, the report and the end is that of the program of this title with the report as its notes
+pub reported_written : (subject : Subject) (note : List ℕ) (job : Job) (chains : List (List GridNode)) (uncut : UncutPoints) (title path reported whole : List ℕ) → title ≡ note
+    → path ≡ path_text title job chains → reported ≡ path ++ lines_between (codes "(") (codes ")\n") (report_lines subject uncut)
+    → whole ≡ reported ++ code_text (end_line ∷ []) → whole ≡ titled_text note job chains (report_lines subject uncut)
+reported_written subject note job chains uncut title path reported whole title_is path_is reported_is whole_is =
+    titled_written note job chains (report_lines subject uncut) path reported whole (path_is ∙ ap (λ title. path_text title job chains) title_is)
+    (reported_is ∙ ap (λ text. path ++ text) (notes_text (report_lines subject uncut))) whole_is

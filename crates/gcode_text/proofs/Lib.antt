@@ -1,9 +1,11 @@
 -- The lemmas of the crate.
+pub mod Anys
 pub mod Chains
 pub mod Closing
 pub mod Codes
 pub mod Collects
 pub mod Cutting
+pub mod FlatNotes
 pub mod Follows
 pub mod Frames
 pub mod Growing
@@ -17,5 +19,6 @@ pub mod Readable
 pub mod Reported
 pub mod Stepped
 pub mod StrokeNotes
+pub mod Through
 pub mod Visited
 pub mod Walks

@@ -1,6 +1,7 @@
 -- The definitions of the crate.
 pub mod Collecting
 pub mod Faults
+pub mod Flat
 pub mod Following
 pub mod Grammar
 pub mod Moves

@@ -18,6 +18,7 @@ use Rattle.gcode_text.specs.declared.job.Job.{Job}
 use Rattle.gcode_text.specs.declared.written.Motion.{Motion}
 use Rattle.gcode_text.specs.declared.written.Motion.TheVariants.{Rapid, Straight}
 use Rattle.gcode_text.specs.declared.job.TheConstants.{MOST_FEED, MOST_SAFE_HEIGHT}
+use Rattle.gcode_text.specs.declared.report.Subject.TheVariants.{Uncut}
 
 -- the ranges of a job's numbers
 pub record IsJob (job : Job) : Type 0 where
@@ -69,14 +70,17 @@ job_note job =
     codes "bit " ++ (decimal job.bit.sn ++ (codes "/" ++ (decimal job.bit.sd ++ (codes " rmax " ++ (decimal job.bit.rmax
     ++ (codes " limit " ++ (decimal job.limit ++ (codes " step " ++ decimal job.step))))))))
 
--- the units (G20 inches, G21 millimetres), absolute places (G90), the feed (F, 70), and up to the safe height
-unfoldable pub setup_lines : Job → List WrittenLine
-setup_lines job =
-    Words (word 71 (if is_inch_of job.units then codes "20" else codes "21") ∷ [])
+-- the units (G20 inches, G21 millimetres), absolute places (G90), and the feed (F, 70)
+abbrev pub mode_lines : Units → (feed : ℕ) → List WrittenLine
+mode_lines units feed =
+    Words (word 71 (if is_inch_of units then codes "20" else codes "21") ∷ [])
     ∷ Words (word 71 (codes "90") ∷ [])
-    ∷ Words (word 70 (decimal job.feed) ∷ [])
-    ∷ height_line job.units rapid (pos job.safe)
+    ∷ Words (word 70 (decimal feed) ∷ [])
     ∷ []
+
+-- the modes, and up to the safe height
+unfoldable pub setup_lines : Job → List WrittenLine
+setup_lines job = mode_lines job.units job.feed ++ height_line job.units rapid (pos job.safe) ∷ []
 
 -- over the first node and down to it, straight from node to node, and up to the safe height
 abbrev pub chain_lines : Job → List GridNode → List WrittenLine
@@ -112,7 +116,7 @@ titled_text title job chains notes = path_text title job chains ++ closing_text 
 
 -- the text of a job's program: its notes are the report on what is left uncut
 abbrev pub program_text : Job → List (List GridNode) → UncutPoints → List ℕ
-program_text job chains uncut = titled_text (job_note job) job chains (report_lines uncut)
+program_text job chains uncut = titled_text (job_note job) job chains (report_lines Uncut uncut)
 
 -- ---- the moves
 

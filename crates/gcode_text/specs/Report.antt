@@ -1,20 +1,27 @@
--- The lines of a report on what is left uncut.
+-- The lines of a report on what a program leaves.
 use Rattle.std.specs.Prelude.{ℕ, ◌<◌, ◌^◌, List, [], ◌∷◌, ◌++◌, map, flat_map, All, codes, decimal}
 use Rattle.grid_num.specs.Written.{decimal_text}
 use Rattle.plane_exact.specs.Uncut.{GridRun, IsRun, UncutPoints}
+use Rattle.gcode_text.specs.declared.report.Subject.{Subject}
+use Rattle.gcode_text.specs.declared.report.Subject.TheVariants.{Uncut, Floor}
 
--- uncut y Y x X0 to X1, in grid units
-unfoldable pub run_line : GridRun → List ℕ
-run_line run =
-    codes "uncut y " ++ (decimal_text 0 run.y ++ (codes " x " ++ (decimal_text 0 run.x0 ++ (codes " to " ++ decimal_text 0 run.x1))))
+-- the word with which each line of the report begins
+abbrev pub subject_word : Subject → List ℕ
+subject_word Uncut = codes "uncut"
+subject_word Floor = codes "floor"
 
--- uncut LEFT of DRAWING
-unfoldable pub count_line : UncutPoints → List ℕ
-count_line uncut = codes "uncut " ++ (decimal uncut.left ++ (codes " of " ++ decimal uncut.drawing))
+-- WORD y Y x X0 to X1, in grid units
+unfoldable pub run_line : Subject → GridRun → List ℕ
+run_line subject run =
+    subject_word subject ++ (codes " y " ++ (decimal_text 0 run.y ++ (codes " x " ++ (decimal_text 0 run.x0 ++ (codes " to " ++ decimal_text 0 run.x1)))))
+
+-- WORD LEFT of DRAWING
+unfoldable pub count_line : Subject → UncutPoints → List ℕ
+count_line subject uncut = subject_word subject ++ (codes " " ++ (decimal uncut.left ++ (codes " of " ++ decimal uncut.drawing)))
 
 -- a line for each run, and then the counts
-abbrev pub report_lines : UncutPoints → List (List ℕ)
-report_lines uncut = map run_line uncut.runs ++ count_line uncut ∷ []
+abbrev pub report_lines : Subject → UncutPoints → List (List ℕ)
+report_lines subject uncut = map (run_line subject) uncut.runs ++ count_line subject uncut ∷ []
 
 -- the text of lines, each between the same two texts
 abbrev pub lines_between : (before behind : List ℕ) → List (List ℕ) → List ℕ

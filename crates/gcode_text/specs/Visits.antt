@@ -1,7 +1,7 @@
 -- The program of a path of visits: spots, in tenths of a grid unit, to which the bit goes one after the other; its lines, and
 -- the moves that they make.
 use Rattle.std.specs.Prelude.{◌≡◌, ℕ, ◌*◌, ◌≤◌, ◌&&◌, ◌||◌, not, List, [], ◌∷◌, ◌++◌, length, All, if◌then◌else◌, ℤ, pos, int_lt, codes, decimal, Ok}
-use Rattle.grid_num.specs.Units.{is_inch_of, per_unit_of}
+use Rattle.grid_num.specs.Units.{per_unit_of}
 use Rattle.grid_num.specs.Written.{decimal_text, zeros_of}
 use Rattle.grid_num.specs.declared.units.Units.{Units}
 use Rattle.plane_exact.specs.Cone.{IsFromOneTo}
@@ -11,7 +11,7 @@ use Rattle.plane_exact.specs.Same.{same_point}
 use Rattle.plane_exact.specs.declared.moves.LineMove.{LineMove}
 use Rattle.gcode_text.specs.Grammar.{Word}
 use Rattle.gcode_text.specs.Moves.{moves_of}
-use Rattle.gcode_text.specs.Path.{end_line, motion_word, moves_through, rapid}
+use Rattle.gcode_text.specs.Path.{end_line, mode_lines, motion_word, moves_through, rapid}
 use Rattle.gcode_text.specs.Written.{WrittenLine, Note, Words, code_text}
 use Rattle.gcode_text.specs.declared.job.TheConstants.{MOST_FEED, MOST_SAFE_HEIGHT}
 use Rattle.gcode_text.specs.declared.modal.TheConstants.{MOST_MOVES}
@@ -60,14 +60,9 @@ abbrev pub visiting_lines : Units → (safe : ℕ) → List GridPlace → List W
 visiting_lines units safe [] = []
 visiting_lines units safe (first ∷ rest) = over_line units first.at ∷ visit_lines units (spot_over safe first.at) (first ∷ rest)
 
--- the units (G20 inches, G21 millimetres), absolute places (G90), the feed (F, 70), and up to the safe height
+-- the modes, and up to the safe height
 abbrev pub opening_lines : Units → (safe feed : ℕ) → List WrittenLine
-opening_lines units safe feed =
-    Words (record { letter = 71; number = if is_inch_of units then codes "20" else codes "21" } ∷ [])
-    ∷ Words (record { letter = 71; number = codes "90" } ∷ [])
-    ∷ Words (record { letter = 70; number = decimal feed } ∷ [])
-    ∷ rise_line units safe
-    ∷ []
+opening_lines units safe feed = mode_lines units feed ++ rise_line units safe ∷ []
 
 -- repaired CHANGED of COUNT
 abbrev pub repair_note : (changed count : ℕ) → List ℕ

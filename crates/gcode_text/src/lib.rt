@@ -6,12 +6,13 @@
 //!
 //! And the other way: `write_code` writes the program of a job with a report on what it leaves uncut, its clause `text` says which
 //! text, and `read_back` that it is read as exactly the moves through the nodes of its chains. `chain_moves` gives these moves
-//! without the text. `write_strokes` writes the program of strokes that are engraved, and `write_visits` that of a path that goes from
-//! spot to spot; both are read back likewise.
+//! without the text. `write_strokes` writes the program of strokes that are engraved, `write_flat` that of a flat bit over a floor, and
+//! `write_visits` that of a path that goes from spot to spot; all are read back likewise.
 #![tactic(auto)]
 
 mod block;
 mod fault;
+mod flat;
 mod job;
 mod judge;
 pub mod law;
@@ -32,12 +33,13 @@ mod writer;
 mod written;
 
 pub use fault::{CodeFault, CodeKind, FinishFault};
+pub use flat::write_flat;
 pub use job::{Job, MOST_FEED, MOST_SAFE_HEIGHT};
 pub use line::MOST_LINE_BYTES;
 pub use modal::MOST_MOVES;
 pub use path_moves::chain_moves;
 pub use reader::{Reader, read_code};
-pub use report::write_report;
+pub use report::{Subject, write_report};
 pub use state::{MOST_CODE_BYTES, Turn};
 pub use stepper::Stepper;
 pub use strokes::write_strokes;

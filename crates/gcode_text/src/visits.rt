@@ -9,7 +9,7 @@ ghost use Rattle.gcode_text.specs.declared.job.TheConstants.{MOST_FEED, MOST_SAF
 ghost use Rattle.gcode_text.specs.declared.modal.TheConstants.{MOST_MOVES};
 
 use crate::report::write_count;
-use crate::written::{Motion, motion_text, write_end};
+use crate::written::{Motion, motion_text, write_end, write_modes};
 use grid_num::{Units, write_decimal};
 use plane_exact::Spot;
 use std::alloc::{AllocError, Global};
@@ -50,18 +50,12 @@ fn write_repaired(changed: u32, count: u32, code: &mut Vec<u8>) -> Result<(), Al
     code.extend_from_slice(b")\n")
 }
 
-// Units, absolute places, the feed, and up to the safe height.
+// The modes, and up to the safe height.
 fn write_opening(units: Units, safe: u32, feed: u32, code: &mut Vec<u8>) -> Result<(), AllocError>
     requires { safe ≤ MOST_SAFE_HEIGHT }
     ensures { OnOk result (code.new.items ≡ code.old.items ++ code_text (opening_lines units safe feed)) }
 {
-    code.extend_from_slice(if units.is_inch() {
-        b"G20\nG90\nF"
-    } else {
-        b"G21\nG90\nF"
-    })?;
-    write_decimal(i64::from(feed), 1, code)?;
-    code.extend_from_slice(b"\n")?;
+    write_modes(units, feed, code)?;
     write_rise(units, safe, code)
 }
 

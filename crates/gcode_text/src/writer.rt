@@ -5,9 +5,11 @@ ghost use Rattle.gcode_text.specs.Path.{IsJob, IsReadBack, chain_lines, job_note
 ghost use Rattle.gcode_text.specs.Written.{code_text};
 
 use crate::job::Job;
-use crate::report::write_report;
-use crate::written::{Motion, write_end, write_height, write_node, write_note, write_travel};
-use grid_num::{Units, write_decimal};
+use crate::report::{Subject, write_report};
+use crate::written::{
+    Motion, write_end, write_height, write_modes, write_node, write_note, write_travel,
+};
+use grid_num::Units;
 use plane_exact::{Chain, Node, Uncut};
 use std::alloc::{AllocError, Global};
 
@@ -28,7 +30,7 @@ pub fn write_code(
 {
     let title = title_of(alloc, job)?;
     let mut code = write_path(alloc, title.as_str(), job, chains)?;
-    write_report(uncut, "(", ")\n", &mut code)?;
+    write_report(Subject::Uncut, uncut, "(", ")\n", &mut code)?;
     write_end(&mut code)?;
     Ok(code)
 }
@@ -82,18 +84,12 @@ fn write_nodes(units: Units, nodes: &[Node], code: &mut Vec<u8>) -> Result<(), A
     Ok(())
 }
 
-/// Units, absolute places, the feed, and up to the safe height.
+/// The modes, and up to the safe height.
 #[tactic(auto, unfolding(crate::specs::Path::setup_lines))]
 fn write_setup(job: &Job, code: &mut Vec<u8>) -> Result<(), AllocError>
     ensures { OnOk result (code.new.items ≡ code.old.items ++ code_text (setup_lines job.now)) }
 {
-    code.extend_from_slice(if job.units.is_inch() {
-        b"G20\nG90\nF"
-    } else {
-        b"G21\nG90\nF"
-    })?;
-    write_decimal(i64::from(job.feed), 1, code)?;
-    code.extend_from_slice(b"\n")?;
+    write_modes(job.units, job.feed, code)?;
     write_height(job.units, Motion::Rapid, i64::from(job.safe), code)
 }
 

@@ -1,6 +1,6 @@
 // The lines of a program, each written at the end of a text.
 ghost use Rattle.std.specs.Prelude.{◌≡◌, ◌++◌, ◌∷◌, [], OnOk};
-ghost use Rattle.gcode_text.specs.Path.{end_line, height_line, length_word, motion_word, node_line, travel_line};
+ghost use Rattle.gcode_text.specs.Path.{end_line, height_line, length_word, mode_lines, motion_word, node_line, travel_line};
 ghost use Rattle.gcode_text.specs.Written.{Note, code_text, word_text};
 
 use grid_num::{Units, write_decimal};
@@ -23,6 +23,19 @@ pub fn write_note(note: &str, code: &mut Vec<u8>) -> Result<(), AllocError>
     code.extend_from_slice(b"(")?;
     code.extend_from_slice(note.as_bytes())?;
     code.extend_from_slice(b")\n")
+}
+
+/// The units, absolute places, and the feed.
+pub fn write_modes(units: Units, feed: u32, code: &mut Vec<u8>) -> Result<(), AllocError>
+    ensures { OnOk result (code.new.items ≡ code.old.items ++ code_text (mode_lines units feed)) }
+{
+    code.extend_from_slice(if units.is_inch() {
+        b"G20\nG90\nF"
+    } else {
+        b"G21\nG90\nF"
+    })?;
+    write_decimal(i64::from(feed), 1, code)?;
+    code.extend_from_slice(b"\n")
 }
 
 /// Over the point, at the height that there is.

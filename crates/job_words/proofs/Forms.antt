@@ -7,7 +7,7 @@ use Rattle.std.proofs.lemmas.Slice.Eq.{bytes_eq-Decides}
 use Rattle.clap.proofs.WalkLemmas.{both}
 use Rattle.job_words.specs.Plain.{GivenOption, given_value, has_needed, is_in_form, is_text_for, is_text_given}
 use Rattle.job_words.specs.Shape.{is_worded, lettering_of, shape_of, shape_options}
-use Rattle.job_words.specs.Values.{at_of, bit_of, charspace_of, chord_of, count_of, cross_named, cross_of, depth_of, feed_of, form_named, form_of, height_of, justify_named, justify_of, letters_of, limit_of, linespace_of, number_of, or_default, over_of, pitch_of, pixel_of, pocket_named, pocket_of, point_of, rmax_of, safe_of, slope_of, snap_of, step_of, text_of, units_named, units_of, width_of, wordspace_of, yes_named, yes_of}
+use Rattle.job_words.specs.Values.{at_of, bit_of, charspace_of, chord_of, count_of, cross_named, cross_of, depth_of, feed_of, form_named, form_of, height_of, justify_named, justify_of, letters_of, limit_of, linespace_of, number_of, or_default, over_of, pitch_of, pixel_of, pocket_named, pocket_of, point_of, radius_of, rmax_of, safe_of, slope_of, snap_of, step_of, text_of, units_named, units_of, width_of, wordspace_of, yes_named, yes_of}
 use Rattle.job_words.specs.declared.request.DrawingWords.{DrawingWords}
 use Rattle.job_words.specs.declared.request.FormWord.{FormWord}
 use Rattle.job_words.specs.declared.request.FormWord.TheVariants as form
@@ -88,6 +88,9 @@ module _ (given : List GivenOption) (in_form : list_all is_in_form given ≡ tru
 
   pub rmax_some : Is (value (codes "rmax")) → Is (rmax_of (value (codes "rmax")))
   rmax_some there = needed_some (number_of 1 8191) (value (codes "rmax")) there (fits given in_form (codes "rmax"))
+
+  pub radius_some : Is (value (codes "radius")) → Is (radius_of (value (codes "radius")))
+  radius_some there = needed_some (number_of 1 8191) (value (codes "radius")) there (fits given in_form (codes "radius"))
 
   pub step_some : Is (value (codes "step")) → Is (step_of (value (codes "step")))
   step_some there = needed_some (number_of 1 32767) (value (codes "step")) there (fits given in_form (codes "step"))

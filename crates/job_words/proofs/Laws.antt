@@ -8,6 +8,7 @@ use Rattle.job_words.proofs.CarveLaw.{carve_law}
 use Rattle.job_words.proofs.CheckLaw.{check_law}
 use Rattle.job_words.proofs.ContactsLaw.{contacts_law}
 use Rattle.job_words.proofs.CoverLaw.{cover_law}
+use Rattle.job_words.proofs.FlatLaw.{flat_law}
 use Rattle.job_words.proofs.FlattenLaw.{flatten_law}
 use Rattle.job_words.proofs.MovesLaw.{moves_law}
 use Rattle.job_words.proofs.ProbeLaw.{probe_law}
@@ -17,7 +18,7 @@ use Rattle.job_words.proofs.TrialLaw.{trial_law}
 use Rattle.job_words.proofs.Requests.{IsLawful, accepted_in_form, request_of-given}
 
 lawful : All IsLawful commands
-lawful = All-from_recursion IsLawful commands (probe_law, (moves_law, (check_law, (contacts_law, (carve_law, (cover_law, (flatten_law, (trial_law, (strokes_law, (repair_law, tt))))))))))
+lawful = All-from_recursion IsLawful commands (probe_law, (moves_law, (check_law, (contacts_law, (carve_law, (cover_law, (flatten_law, (trial_law, (strokes_law, (repair_law, (flat_law, tt)))))))))))
 
 pub all_requests_of_given : All (λ command. (given : List GivenOption) → IsGiven command.options given → IsRequestOfGiven command given) commands
 all_requests_of_given = All-weaker IsLawful _ request_of-given commands lawful

@@ -5,6 +5,7 @@ pub mod CarveLaw
 pub mod CheckLaw
 pub mod ContactsLaw
 pub mod CoverLaw
+mod FlatLaw
 mod FlattenLaw
 pub mod Forms
 pub mod Laws

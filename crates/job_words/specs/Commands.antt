@@ -6,6 +6,7 @@ use Rattle.job_words.specs.Commands.Carve.{carve}
 use Rattle.job_words.specs.Commands.Check.{check}
 use Rattle.job_words.specs.Commands.Contacts.{contacts}
 use Rattle.job_words.specs.Commands.Cover.{cover}
+use Rattle.job_words.specs.Commands.Flat.{flat}
 use Rattle.job_words.specs.Commands.Flatten.{flatten}
 use Rattle.job_words.specs.Commands.Moves.{moves}
 use Rattle.job_words.specs.Commands.Probe.{probe}
@@ -16,6 +17,7 @@ pub mod Carve
 pub mod Check
 pub mod Contacts
 pub mod Cover
+pub mod Flat
 pub mod Flatten
 pub mod Moves
 pub mod Probe
@@ -25,7 +27,7 @@ pub mod Trial
 
 -- every command of the program
 abbrev pub commands : List Command
-commands = probe ∷ moves ∷ check ∷ contacts ∷ carve ∷ cover ∷ flatten ∷ trial ∷ strokes ∷ repair ∷ []
+commands = probe ∷ moves ∷ check ∷ contacts ∷ carve ∷ cover ∷ flatten ∷ trial ∷ strokes ∷ repair ∷ flat ∷ []
 
 -- the first of the commands that has this name
 abbrev pub named_among : List Command → List ℕ → Option Command

@@ -64,6 +64,7 @@ is_in_form given =
     if bytes_eq given.name (codes "at") then is_some (point_of given.value)
     else if bytes_eq given.name (codes "bit") then is_some (slope_of given.value)
     else if bytes_eq given.name (codes "rmax") then is_some (number_of 1 8191 given.value)
+    else if bytes_eq given.name (codes "radius") then is_some (number_of 1 8191 given.value)
     else if bytes_eq given.name (codes "step") then is_some (number_of 1 32767 given.value)
     else if bytes_eq given.name (codes "limit") then is_some (number_of 1 32767 given.value)
     else if bytes_eq given.name (codes "safe") then is_some (number_of 1 32767 given.value)

@@ -6,6 +6,7 @@ use Rattle.job_words.specs.Commands.{commands, named_among}
 use Rattle.job_words.specs.Commands.Carve.{IsCarveInRange}
 use Rattle.job_words.specs.Commands.Contacts.{IsContactsInRange}
 use Rattle.job_words.specs.Commands.Cover.{IsCoverInRange}
+use Rattle.job_words.specs.Commands.Flat.{IsFlatInRange}
 use Rattle.job_words.specs.Commands.Probe.{IsProbeInRange}
 use Rattle.job_words.specs.Commands.Repair.{IsRepairInRange}
 use Rattle.job_words.specs.Commands.Strokes.{IsStrokesInRange}
@@ -35,6 +36,7 @@ IsInRange (request.Contacts shape step rmax) = IsShapeInRange shape × IsContact
 IsInRange (request.Carve shape bit rmax step limit safe feed pitch lines over) = IsShapeInRange shape × IsCarveInRange bit rmax step limit safe feed pitch over
 IsInRange (request.Cover shape code bit rmax pitch) = IsShapeInRange shape × IsCoverInRange bit rmax pitch
 IsInRange (request.Flatten shape) = IsShapeInRange shape
+IsInRange (request.Flat shape bit rmax radius limit over safe feed pitch lines) = IsShapeInRange shape × IsFlatInRange bit rmax radius limit over safe feed pitch lines
 IsInRange (request.Strokes shape bit rmax depth safe feed pitch) = IsShapeInRange shape × IsStrokesInRange shape bit rmax depth safe feed pitch
 IsInRange (request.Repair shape code bit rmax safe feed) = IsShapeInRange shape × IsRepairInRange bit rmax safe feed
 IsInRange (request.Trial count) = IsTrialInRange count

@@ -134,6 +134,14 @@ pitch_of = or_default 10 (number_of 1 32767)
 abbrev pub pocket_of : Option (List ℕ) → Option PocketWord
 pocket_of = or_default NoPocket pocket_named
 
+-- the same of `flat`: rows where it isn't given
+abbrev pub lines_of : Option (List ℕ) → Option PocketWord
+lines_of = or_default X pocket_named
+
+-- `--radius`, from 1 to 8191
+abbrev pub radius_of : Option (List ℕ) → Option ℕ
+radius_of = option_and_then (number_of 1 8191)
+
 -- `--over`, from 1 to 8191, and 50 where it isn't given
 abbrev pub over_of : Option (List ℕ) → Option ℕ
 over_of = or_default 50 (number_of 1 8191)

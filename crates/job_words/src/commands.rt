@@ -4,6 +4,7 @@ pub mod carve;
 pub mod check;
 pub mod contacts;
 pub mod cover;
+pub mod flat;
 pub mod flatten;
 pub mod moves;
 pub mod probe;

@@ -2,7 +2,7 @@
 ghost use Rattle.std.specs.Prelude.{◌≡◌, ◌≤◌, IfOk, IfSome, Some, None, Err, codes};
 ghost use Rattle.clap.specs.Words.{first_value, found_of};
 ghost use Rattle.plane_exact.specs.Cone.{IsFromOneTo};
-ghost use Rattle.job_words.specs.Values.{at_of, bit_of, count_of, rmax_of, step_of, limit_of, safe_of, feed_of, over_of, pitch_of, pocket_of, depth_of, number_of, or_default, units_of};
+ghost use Rattle.job_words.specs.Values.{at_of, bit_of, count_of, rmax_of, step_of, limit_of, lines_of, radius_of, safe_of, feed_of, over_of, pitch_of, pocket_of, depth_of, number_of, or_default, units_of};
 
 use crate::fault::WordsFault;
 use crate::options::CommandOption;
@@ -26,6 +26,11 @@ pub const BIT: CommandOption = CommandOption {
 
 pub const RMAX: CommandOption = CommandOption {
     name: "rmax",
+    required: true,
+};
+
+pub const RADIUS: CommandOption = CommandOption {
+    name: "radius",
     required: true,
 };
 
@@ -104,6 +109,13 @@ pub fn rmax_in(found: &ArgMatches) -> Option<u32>
     read_number(found.get_str("rmax")?, 1, 8191)
 }
 
+pub fn radius_in(found: &ArgMatches) -> Option<u32>
+    ensures value { result ≡ radius_of (first_value (found_of found.now) (codes "radius")) }
+    ensures range { IfSome result (IsFromOneTo 8191) }
+{
+    read_number(found.get_str("radius")?, 1, 8191)
+}
+
 pub fn step_in(found: &ArgMatches) -> Option<u32>
     ensures value { result ≡ step_of (first_value (found_of found.now) (codes "step")) }
     ensures range { IfSome result (IsFromOneTo 32767) }
@@ -150,6 +162,16 @@ pub fn pocket_in(found: &ArgMatches) -> Option<PocketWord>
     match found.get_str("pocket") {
         Some(text) => read_pocket(text),
         None => Some(PocketWord::NoPocket),
+    }
+}
+
+/// Rows where the option isn't given.
+pub fn lines_in(found: &ArgMatches) -> Option<PocketWord>
+    ensures { result ≡ lines_of (first_value (found_of found.now) (codes "pocket")) }
+{
+    match found.get_str("pocket") {
+        Some(text) => read_pocket(text),
+        None => Some(PocketWord::X),
     }
 }
 

@@ -163,6 +163,28 @@ pub enum Request {
         /// As in `Carve`.
         pitch: u32,
     },
+    /// The G-code program by which a flat bit mills the floor that the depth limit leaves.
+    Flat {
+        shape: DrawingWords,
+        /// As in `Probe`, the conical bit that cuts the walls.
+        bit: (u32, u32),
+        /// As in `Probe`.
+        rmax: u32,
+        /// The radius of the flat bit, in grid units, from 1 to 8191.
+        radius: u32,
+        /// As in `Probe`.
+        limit: u32,
+        /// As in `Carve`.
+        over: u32,
+        /// As in `Carve`.
+        safe: u32,
+        /// As in `Carve`.
+        feed: u32,
+        /// As in `Carve`.
+        pitch: u32,
+        /// Which way the floor is milled; it isn't `NoPocket`.
+        pocket: PocketWord,
+    },
     /// The drawing in loops form.
     Flatten {
         shape: DrawingWords,

@@ -4,6 +4,7 @@ mod carve;
 mod check;
 mod contacts;
 mod cover;
+mod flat;
 mod flatten;
 mod moves;
 mod probe;
@@ -127,6 +128,25 @@ fn text_of_request(alloc: Global, request: &Request) -> Result<String, AllocErro
             let lettering = lettering_text(alloc, shape)?;
             format!(in alloc; "{text} {chord} {snap} {pixel} {lettering}")
         }
+        Request::Flat {
+            shape,
+            bit,
+            rmax,
+            radius,
+            limit,
+            over,
+            safe,
+            feed,
+            pitch,
+            pocket,
+        } => {
+            let shape = shape_text(alloc, shape)?;
+            let (sn, sd) = *bit;
+            let numbers = format!(in alloc;
+                "{rmax} {radius} {limit} {over} {safe} {feed} {pitch}"
+            )?;
+            format!(in alloc; "{shape} {sn}/{sd} {numbers} {pocket:?}")
+        }
         Request::Strokes {
             shape,
             bit,
@@ -164,6 +184,7 @@ fn lines_ask_for_their_values(rt: HostRuntime) -> Result<(), Fail> {
         check::LINES.as_slice(),
         contacts::LINES.as_slice(),
         cover::LINES.as_slice(),
+        flat::LINES.as_slice(),
         flatten::LINES.as_slice(),
         moves::LINES.as_slice(),
         probe::LINES.as_slice(),

@@ -3,7 +3,7 @@ ghost use Rattle.std.specs.Prelude.{◌≡◌, IfOk, Some, None, Err, map, strin
 ghost use Rattle.job_words.specs.Request.{request_of, IsInRange};
 
 use crate::commands::{
-    carve, check, contacts, cover, flatten, moves, probe, repair, strokes, trial,
+    carve, check, contacts, cover, flat, flatten, moves, probe, repair, strokes, trial,
 };
 use crate::fault::WordsFault;
 use crate::request::Request;
@@ -43,6 +43,8 @@ pub fn read_words(alloc: Global, words: &[String]) -> Result<Request, WordsFault
         strokes::read(alloc, words)
     } else if name == "repair" {
         repair::read(alloc, words)
+    } else if name == "flat" {
+        flat::read(alloc, words)
     } else {
         Err(WordsFault::Usage)
     }

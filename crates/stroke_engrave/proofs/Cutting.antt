@@ -22,7 +22,7 @@ use Rattle.stroke_engrave.specs.Bounds.{IsStrokeBox, ends_of, reach_of, to_coord
 use Rattle.stroke_engrave.specs.Cut.{AreStrokeCounts, IsStrokePoint}
 use Rattle.stroke_engrave.specs.Disc.{IsInStrokes, IsNearStroke}
 use Rattle.stroke_engrave.specs.Moves.{stroke_move}
-use Rattle.stroke_engrave.proofs.Anys.{any_cases, any_first, any_later, any_none}
+use Rattle.gcode_text.proofs.Anys.{any_cases, any_first, any_later, any_none}
 use Rattle.stroke_engrave.proofs.Straight.{near_of_removed, removed_of_near}
 
 -- ---- the moves along the strokes

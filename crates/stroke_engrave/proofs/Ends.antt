@@ -9,7 +9,7 @@ use Rattle.plane_exact.specs.Plane.{GridPoint}
 use Rattle.plane_exact.specs.declared.point.Seg.{Seg}
 use Rattle.evenodd_region.specs.Bounds.{IsBoxOf, IsInBox}
 use Rattle.stroke_engrave.specs.Bounds.{ends_of}
-use Rattle.stroke_engrave.proofs.Anys.{any_first, any_joined, any_later}
+use Rattle.gcode_text.proofs.Anys.{any_first, any_joined, any_later}
 
 -- both ends are in the box
 pub record IsHeld (low high : GridPoint) (stroke : Seg) : Type 0 where

@@ -19,27 +19,17 @@ use Rattle.stroke_engrave.specs.Chains.{chains_of}
 use Rattle.stroke_engrave.specs.Disc.{IsNearStroke}
 use Rattle.stroke_engrave.specs.Law.{StrokesLaw}
 use Rattle.stroke_engrave.proofs.Along.{IsEngraved, along_strokes, chains_engraved, edges_along}
-use Rattle.stroke_engrave.proofs.Anys.{any_cases, any_first, any_joined, any_later, any_none, any_permutation}
+use Rattle.gcode_text.proofs.Anys.{any_cases, any_first, any_joined, any_later, any_none, any_permutation}
+use Rattle.gcode_text.proofs.Through.{SomeThrough, through_moves}
 use Rattle.stroke_engrave.proofs.Straight.{near_finish, near_of_removed, near_start, removed_of_near}
 
 module _ (cone : Cone) (w : RationalPoint) where
   -- some move from a place through others removes w
   abbrev RemovedThrough : GridPlace → List GridPlace → Type 0
-  RemovedThrough from [] = ⊥
-  RemovedThrough from (to ∷ places) = Removes cone (record { from = from; to = to }) w ⊎ RemovedThrough to places
+  RemovedThrough = SomeThrough (λ mv. Removes cone mv w)
 
   abbrev IsRemover : LineMove → Type 0
   IsRemover move = Removes cone move.mv w
-
-  through_moves : (line : ℕ) (from : GridPlace) (places : List GridPlace) → RemovedThrough from places ↔ Any IsRemover (moves_through line from places)
-  through_moves line from [] = ((λ none. absurd none), (λ some. any_none IsRemover some))
-  through_moves line from (to ∷ places) =
-      let move : LineMove = record { line = line; mv = record { from = from; to = to } } in
-      let moves = moves_through (line + 1) to places in
-      let rest = through_moves (line + 1) to places in (
-        (λ some. elim some [ inl here ↦ any_first IsRemover move moves here | inr later ↦ any_later IsRemover move moves (rest.0 later) ]),
-        (λ some. elim (any_cases IsRemover move moves some) [ inl here ↦ inl here | inr later ↦ inr (rest.1 later) ]),
-      )
 
   module _ (job : Job) (depth : ℕ) (some : 1 ≤ depth) where
     abbrev over : GridPoint → GridPlace
@@ -170,7 +160,7 @@ module _ (cone : Cone) (w : RationalPoint) where
     program_removes ((first ∷ rest) ∷ chains) engraved =
         let all = (first ∷ rest) ∷ chains in
         let places = map node_place (first ∷ rest) ++ over (last_place (first ∷ rest)) ∷ [] in
-        let moves = through_moves 7 (over first.at) (places ++ flat_map (chain_places job) chains) in (
+        let moves = through_moves (λ mv. Removes cone mv w) 7 (over first.at) (places ++ flat_map (chain_places job) chains) in (
           (λ some. chains_near first.at all engraved (inr (moves.1 some))),
           (λ near. elim (chains_removed first.at all engraved near) [ inl travel ↦ absurd (travel_nothing first.at first.at travel) | inr removed ↦ moves.0 removed ]),
         )

@@ -1,6 +1,5 @@
 -- The lemmas of the crate.
 pub mod Along
-pub mod Anys
 pub mod Cutting
 pub mod Ends
 pub mod Engraved

@@ -2,6 +2,7 @@
 use Rattle.std.specs.Prelude.{◌≡◌, ◌⊎◌, ℕ, List, [], Ok, codes}
 use Rattle.coverage_report.specs.Report.{HasManyPoints, IsReportOn}
 use Rattle.gcode_text.specs.Report.{lines_between, report_lines}
+use Rattle.gcode_text.specs.declared.report.Subject.TheVariants.{Uncut}
 use Rattle.job_words.specs.declared.request.DrawingWords.{DrawingWords}
 use Rattle.plane_exact.specs.Cone.{Cone}
 use Rattle.plane_exact.specs.Plane.{GridPoint}
@@ -19,7 +20,7 @@ use Rattle.engrave_core.specs.declared.refusal.Refusal.TheVariants.{Input}
 
 -- the lines of the report
 abbrev pub cover_text : UncutPoints → List ℕ
-cover_text uncut = lines_between [] (codes "\n") (report_lines uncut)
+cover_text uncut = lines_between [] (codes "\n") (report_lines Uncut uncut)
 
 -- the text is the report on the moves: the points of it inside the drawing that no moment of any move removes
 pub record IsTold (bit : Cone) (pitch : ℕ) (loops : List (List GridPoint)) (moves : List LineMove) (text : List ℕ) : Type 0 where

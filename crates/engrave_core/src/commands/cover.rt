@@ -14,7 +14,7 @@ use crate::files::load_code;
 use crate::refusal::Refusal;
 use coverage_report::{MOST_PITCH, uncut};
 use depth_rule::Scene;
-use gcode_text::write_report;
+use gcode_text::{Subject, write_report};
 use job_words::{DrawingWords, Text};
 use plane_exact::{Bit, LineMove, Uncut};
 use shop_port::Depot;
@@ -61,6 +61,6 @@ fn lines_of(alloc: Global, uncut: &Uncut) -> Result<Vec<u8>, AllocError>
     ensures { IfOk result (λ text. text.items ≡ cover_text uncut.now) }
 {
     let mut text = Vec::new(alloc);
-    write_report(uncut, "", "\n", &mut text)?;
+    write_report(Subject::Uncut, uncut, "", "\n", &mut text)?;
     Ok(text)
 }

@@ -2,7 +2,7 @@
 use Rattle.std.specs.Prelude.{map, string_bytes}
 use Rattle.std.proofs.Common.{inr}
 use Rattle.job_words.specs.Request.{request_of}
-use Rattle.engrave_core.proofs.Safety.{good_repair, good_text, true_engraving, true_report, written_is_safe, written_is_so, written_is_true}
+use Rattle.engrave_core.proofs.Safety.{good_repair, good_text, true_engraving, true_milling, true_report, written_is_safe, written_is_so, written_is_true}
 use Rattle.engrave_core.proofs.Writing.{IfSome-map, caused_after, part_of_due, completes}
 use Rattle.engrave_core.proofs.top.engrave.Goals as goal
 
@@ -53,6 +53,15 @@ returns-in-Ok-clause-engraved g c =
     (λ files due done. written_is_so files (request_of (map string_bytes c.args.words.now)) c.in-Ok.reply.text.items
     c.in-Ok.reply.outcome c.write.result _ _ _
     (true_engraving files (request_of (map string_bytes c.args.words.now)) c.in-Ok.reply.text.items c.in-Ok.reply.outcome c.write.result)
+    c.write.ensures.either due c.write.ensures.written done)
+    c.in-Ok.ensures.due
+
+pub returns-in-Ok-clause-milled : goal.returns-in-Ok-clause-milled
+returns-in-Ok-clause-milled g c =
+    IfSome-map (g.D.Depot.held c.args.depot.now)
+    (λ files due done. written_is_so files (request_of (map string_bytes c.args.words.now)) c.in-Ok.reply.text.items
+    c.in-Ok.reply.outcome c.write.result _ _ _
+    (true_milling files (request_of (map string_bytes c.args.words.now)) c.in-Ok.reply.text.items c.in-Ok.reply.outcome c.write.result)
     c.write.ensures.either due c.write.ensures.written done)
     c.in-Ok.ensures.due
 
