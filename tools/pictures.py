@@ -1,9 +1,22 @@
 #!/usr/bin/env python3
-"""Draws the pictures of docs/PROOFS.md as plain SVG files into docs/pictures."""
+"""Draws the pictures of docs/PROOFS.md and of docs/TUTORIAL.md as SVG files into docs/pictures.
 
+    python3 tools/pictures.py
+    python3 tools/pictures.py --program PATH    where the built program isn't in crates/engrave_cli/out
+
+Those of the proofs are drawn here. Those of the tutorial are what tools/picture.py draws of cases of examples/, for which it runs the
+built program.
+"""
+
+import argparse
+import shlex
+import subprocess
+import sys
 from pathlib import Path
 
-FOLDER = Path(__file__).resolve().parent.parent / "docs" / "pictures"
+TOP = Path(__file__).resolve().parent.parent
+FOLDER = TOP / "docs" / "pictures"
+BUILT = TOP / "crates/engrave_cli/out/engrave_cli"
 
 
 def svg(width, height, parts):
@@ -127,7 +140,32 @@ def witness_at_a_crossing():
 
 PICTURES = [ray, levels, witness_at_an_end, witness_at_a_corner, witness_at_a_crossing]
 
-if __name__ == "__main__":
+# The pictures of the tutorial: the case in whose folder tools/picture.py draws each, and its words.
+FONT = "--form=cxf --drawing=../../fonts/plate.cxf --justify=center --bit=571/989"
+FRONT = "--form=dxf --drawing=front2.dxf --chord=20 --snap=3"
+TUTORIAL = {
+    "hall": ("cover_hall", f"{FONT} --text='HALL 7' --height=2000 --code=hall.ngc --rmax=300 --pitch=50"),
+    "seven": ("flat_seven", f"{FONT} --text=7 --height=6000 --code=seven_walls.ngc --rmax=173 --flat=seven_floor.ngc --radius=100 --pitch=100"),
+    "front": ("cover_front", f"{FRONT} --code=front.ngc --bit=1/1 --rmax=200 --pitch=50"),
+    "arrow": ("cover_arrow", "--drawing=arrow.loops --code=arrow.ngc --bit=1/1 --rmax=200 --pitch=100 --edges=4"),
+}
+
+
+def draw_tutorial(program):
+    for name, (case, words) in TUTORIAL.items():
+        drawn = [sys.executable, TOP / "tools/picture.py", f"--program={program}", f"--out={FOLDER / name}.svg", *shlex.split(words)]
+        subprocess.run(drawn, cwd=TOP / "examples" / case, check=True)
+
+
+def main():
+    parser = argparse.ArgumentParser(description=__doc__.splitlines()[0])
+    parser.add_argument("--program", type=Path, default=BUILT)
+    program = parser.parse_args().program.resolve()
     FOLDER.mkdir(parents=True, exist_ok=True)
     for picture in PICTURES:
         (FOLDER / f"{picture.__name__}.svg").write_text(picture())
+    draw_tutorial(program)
+
+
+if __name__ == "__main__":
+    main()
