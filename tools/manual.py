@@ -78,7 +78,7 @@ ABOUT = [
     "A value that begins with `-` is written with `=`. Names aren't abbreviated.",
 ]
 
-ELSEWHERE = "In the repository: docs/TUTORIAL.md, the first sign; docs/COMMANDS.md, the manual; docs/MESSAGES.md; docs/LIMITS.md."
+ELSEWHERE = "In the repository: docs/TUTORIAL.md, three jobs from start to end; docs/COMMANDS.md, the manual; docs/MESSAGES.md; docs/LIMITS.md."
 
 
 def man_page(manual):
