@@ -12,8 +12,8 @@ Curves become chords. Each point of an outline is nearer to what is written than
 written is as near to the outline: a chord misses its curve by --tolerance at most, and rounding moves its ends by half a grid unit in
 each direction. Of a dropped loop nothing is written.
 
-What isn't taken is told on standard error, by its kind, how often it comes, and where. A file that can't be read, or whose drawing isn't on
-the grid, ends with one line there and status 3, and nothing is written. docs/BRIDGES.md says more.
+What isn't taken is told on standard error, by its kind, how often it comes, and where. A file that can't be read, of which nothing is taken,
+or whose drawing isn't on the grid, ends with one line there and status 3, and nothing is written. docs/BRIDGES.md says more.
 """
 
 import argparse
@@ -247,8 +247,6 @@ def page(root, walk, asked):
 def placed(shapes, origin):
     """The loops where they belong, all on the grid."""
     points = [point for shape in shapes for loop in shape.loops for point in loop]
-    if not points:
-        raise SvgFault("no shape")
     left, low = (min(point[axis] for point in points) if origin == "drawing" else 0 for axis in (0, 1))
     moved = [shape._replace(loops=[[(x - left, y - low) for x, y in loop] for loop in shape.loops]) for shape in shapes]
     for shape in moved:
@@ -273,9 +271,11 @@ def drawing(data, asked):
     except SvgFault as fault:
         raise SvgFault(fault.args[0], name_of(root)) from None
     walk.walk(root, matrix, FIRST_STYLE, viewport, 0)
-    shapes = placed(walk.shapes, asked.origin)
     for what in ("skipped in defs", "skipped symbol"):
         walk.notes[what] = [name for name in walk.notes.get(what, []) if name not in walk.used]
+    if not walk.shapes:
+        raise SvgFault("; ".join(["no shape", *told(walk.notes)]))
+    shapes = placed(walk.shapes, asked.origin)
     names = unlike(shapes)
     if names is None:
         walk.tell("too many loops to compare their filling with the even-odd rule")
