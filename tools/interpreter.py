@@ -1,5 +1,5 @@
 #!/usr/bin/env python3
-"""Reads the programs of `carve` and `flat` in examples/ by LinuxCNC's interpreter too, and compares its moves with those that `moves` lists.
+"""Reads each program that a command writes in examples/ by LinuxCNC's interpreter too, and compares its moves with those that `moves` lists.
 
     python3 tools/interpreter.py [--program PATH] [--interpreter PATH] [FILE ..]
 
@@ -85,11 +85,11 @@ def way(start, end):
     return f"from {ends[0]} to {ends[1]}"
 
 
-def carved():
-    """The carved and milled programs of the examples, with their units."""
+def written():
+    """The programs that commands write in the examples, with their units."""
     for words in sorted((TOP / "examples").glob("*/words")):
         case = Case(words.parent)
-        if case.words[0] in ("carve", "flat") and case.status == 0:
+        if case.words[0] in ("carve", "flat", "strokes", "repair") and case.status == 0:
             units = [word.removeprefix("--units=") for word in case.words if word.startswith("--units=")]
             yield case.folder / "expected", units[0] if units else "mm100"
 
@@ -106,7 +106,7 @@ def main():
     if not options.program.exists():
         print(f"{options.program} isn't there; to build it: {BUILD}")
         return 2
-    programs = [(file, "mm100") for file in options.files] or list(carved())
+    programs = [(file, "mm100") for file in options.files] or list(written())
     moves, faults = 0, []
     for path, units in programs:
         try:
