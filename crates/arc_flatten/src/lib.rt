@@ -13,8 +13,6 @@ mod halving;
 mod heading;
 mod points;
 mod quarter;
-#[cfg(test)]
-mod tests;
 mod wide;
 
 pub use angle::{MOST_ANGLE, TURN, span_between, turn};

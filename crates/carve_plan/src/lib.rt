@@ -13,8 +13,6 @@ mod milled;
 mod plans;
 mod round;
 mod stop;
-#[cfg(test)]
-mod tests;
 
 pub use chains::in_order;
 pub use fault::PlanFault;

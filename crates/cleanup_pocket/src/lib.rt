@@ -14,8 +14,6 @@ mod kept;
 pub mod law;
 mod line;
 mod pockets;
-#[cfg(test)]
-mod tests;
 mod walk;
 
 pub use axis::{Axis, Way};

@@ -7,8 +7,6 @@
 mod fault;
 pub mod law;
 mod repairs;
-#[cfg(test)]
-mod tests;
 mod visits;
 mod walk;
 

@@ -13,8 +13,6 @@ mod lattice;
 mod marks;
 mod row;
 mod runs;
-#[cfg(test)]
-mod tests;
 
 pub use count::{CutCount, count_cut};
 pub use cover::{MOST_PITCH, MOST_POINTS, marked_uncut, uncut};

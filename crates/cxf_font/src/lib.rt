@@ -25,8 +25,6 @@ mod reader;
 mod reading;
 mod spot;
 mod strokes;
-#[cfg(test)]
-mod tests;
 mod wide;
 
 pub use drawing::MOST_LETTERING;

@@ -16,8 +16,6 @@ mod least;
 mod met;
 mod scene;
 mod steps;
-#[cfg(test)]
-mod tests;
 mod ticks;
 
 pub use bounds::Bounds;

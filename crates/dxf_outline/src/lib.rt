@@ -19,8 +19,6 @@ mod reader;
 mod resolution;
 mod shapes;
 mod slots;
-#[cfg(test)]
-mod tests;
 mod texts;
 mod values;
 mod walk;

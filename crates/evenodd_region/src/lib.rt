@@ -15,8 +15,6 @@ mod meeting;
 mod ratio;
 mod rows;
 mod sides;
-#[cfg(test)]
-mod tests;
 mod way;
 mod words;
 

@@ -10,11 +10,7 @@ mod discs;
 mod floor;
 pub mod law;
 mod left;
-#[cfg(test)]
-mod left_tests;
 mod marks;
-#[cfg(test)]
-mod tests;
 
 pub use chains::flat;
 pub use cleanup_pocket::PocketFault as MillFault;

@@ -25,8 +25,6 @@ mod report;
 mod state;
 mod stepper;
 mod strokes;
-#[cfg(test)]
-mod tests;
 mod visits;
 mod words;
 mod writer;

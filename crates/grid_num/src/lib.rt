@@ -10,8 +10,6 @@ mod numeral;
 mod real;
 mod root;
 mod split;
-#[cfg(test)]
-mod tests;
 mod units;
 mod whole;
 mod writer;

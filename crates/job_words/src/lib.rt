@@ -11,8 +11,6 @@ pub mod law;
 mod options;
 mod request;
 mod shape;
-#[cfg(test)]
-mod tests;
 mod text;
 mod values;
 mod words;

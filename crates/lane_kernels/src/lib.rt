@@ -10,6 +10,3 @@ mod words;
 
 pub use boxes::{Rect, boxes_hit};
 pub use words::{and_not, count_ones};
-
-#[cfg(test)]
-mod tests;

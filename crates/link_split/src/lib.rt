@@ -8,8 +8,6 @@ mod halves;
 pub mod law;
 mod links;
 mod step;
-#[cfg(test)]
-mod tests;
 
 pub use links::{MOST_HALVINGS, link};
 pub use step::Step;

@@ -13,8 +13,6 @@ mod kept;
 mod law;
 mod odd;
 mod snapped;
-#[cfg(test)]
-mod tests;
 mod unused;
 
 pub use guarded::guard;

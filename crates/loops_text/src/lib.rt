@@ -9,8 +9,6 @@ mod crossing;
 mod drawing;
 mod fault;
 mod reader;
-#[cfg(test)]
-mod tests;
 mod writer;
 
 pub use crossing::crosses;

@@ -12,8 +12,6 @@ mod extent;
 mod found;
 mod left;
 mod span;
-#[cfg(test)]
-mod tests;
 mod tour;
 
 pub use tour::order;

@@ -14,8 +14,6 @@ mod magic;
 mod reader;
 mod same;
 mod side;
-#[cfg(test)]
-mod tests;
 mod tracing;
 
 pub use bitmap::{Bitmap, MOST_SIDE};

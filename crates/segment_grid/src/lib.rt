@@ -14,8 +14,6 @@ mod level;
 mod near;
 mod open;
 mod pack;
-#[cfg(test)]
-mod tests;
 mod walk;
 
 pub use boxes::box_of;

@@ -21,6 +21,3 @@ pub use memory::{MemDepot, MemSink};
 pub use sending::{WriteFault, send};
 pub use sink::Sink;
 pub use sure::{SureDepot, SureSink};
-
-#[cfg(test)]
-mod tests;

@@ -9,8 +9,6 @@ mod chains;
 mod cut;
 pub mod law;
 mod node;
-#[cfg(test)]
-mod tests;
 
 pub use chains::stroke_chains;
 pub use cut::stroke_cut;

@@ -15,8 +15,6 @@ mod off;
 mod open_disc;
 mod pieces;
 mod rounding;
-#[cfg(test)]
-mod tests;
 mod touch;
 mod ways;
 

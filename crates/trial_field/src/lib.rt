@@ -5,7 +5,5 @@
 
 mod cell;
 mod field;
-#[cfg(test)]
-mod tests;
 
 pub use field::{MOST_CELLS, trial_field};

@@ -1,7 +1,0 @@
--- Answers the goals of `count_characters`.
-use Rattle.std.proofs.Common.{rules}
-use Rattle.std.proofs.lemmas.Str.{chars_from_encodes}
-use Rattle.cxf_font.proofs.tests.laid.count_characters.Goals as goal
-
-pub returns : goal.returns
-returns c = search (rules, chars_from_encodes)

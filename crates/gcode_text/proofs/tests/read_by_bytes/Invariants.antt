@@ -1,6 +1,0 @@
--- The invariants of the loop of `read_by_bytes`.
-use Rattle.std.proofs.Common.{◌≡◌}
-use Rattle.gcode_text.proofs.tests.read_by_bytes.Given as goal
-
-abbrev pub invariant-loop-i : goal.invariant-loop-i
-invariant-loop-i g l = l.reader.state.fed ≡ l.i

@@ -1,0 +1,7 @@
+-- Answers the goals of `count_characters`.
+use Rattle.std.proofs.Common.{rules}
+use Rattle.std.proofs.lemmas.Str.{chars_from_encodes}
+use Rattle.text_tests.proofs.letters.laid.count_characters.Goals as goal
+
+pub returns : goal.returns
+returns c = search (rules, chars_from_encodes)
