@@ -14,4 +14,5 @@ mod marks;
 
 pub use chains::flat;
 pub use cleanup_pocket::PocketFault as MillFault;
+pub use coverage_report::CoverFault as FloorFault;
 pub use left::floor_left;

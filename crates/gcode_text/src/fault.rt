@@ -11,7 +11,7 @@ pub enum CodeKind {
     Word,
     /// What follows a letter isn't a plain number of at most 27 digits.
     Number,
-    /// A coordinate isn't a whole number of grid units.
+    /// A coordinate isn't a whole number of tenths of a grid unit.
     OffGrid,
     /// A letter other than G and M, or a motion word, stands twice in the line.
     Twice,

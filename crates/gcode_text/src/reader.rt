@@ -43,7 +43,7 @@ pub fn read_code(alloc: Global, units: Units, code: &[u8]) -> Result<Vec<LineMov
 /// - No mode is asked of a program: without G20, G21 and G90 the job's unit and absolute positions hold.
 /// - A line with a coordinate is a move once X, Y and Z were all known before it. Before that the bit may not be
 ///   below the surface.
-/// - Coordinates are whole numbers of grid units, X and Y from -32,768 to 32,767, Z from -32,767 to 32,767; a number has
+/// - Coordinates are whole tenths of a grid unit, X and Y from -32,768 to 32,767 units, Z from -32,767 to 32,767; a number has
 ///   at most 27 digits, from the first that isn't 0 on, and no exponent.
 /// - A comment in parentheses ends at the next `)`. A `;` begins a comment to the line's end. A line has at most
 ///   1024 bytes without what ends it.

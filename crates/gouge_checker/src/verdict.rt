@@ -1,5 +1,5 @@
 // The verdict on the moves of a G-code program.
-ghost use Rattle.std.specs.Prelude.{◌≡◌, ◌↔◌, ◌++◌, ◌∷◌, [], List};
+ghost use Rattle.std.specs.Prelude.{◌≡◌, ◌≢◌, ◌↔◌, ◌++◌, ◌∷◌, [], List};
 ghost use Rattle.plane_exact.specs.declared.moves.LineMove.{LineMove};
 ghost use Rattle.engrave_model.specs.Drawing.{edges_of};
 ghost use Rattle.engrave_model.specs.Removal.{IsSafeCode};
@@ -52,7 +52,8 @@ fn find_verdict(scene: &Scene, bit: &Bit, moves: &[LineMove]) -> Verdict
 /// The verdict on moves of which all but the last have the verdict `before`: that one where it isn't `Clear`, for it stands, and
 /// else the verdict on the last. So moves that come one by one are judged without keeping them.
 pub fn next_verdict(scene: &Scene, bit: &Bit, before: Verdict, mv: &LineMove) -> Verdict
-    ensures { (moves : List LineMove) → IsVerdict (edges_of scene.now) bit.now moves before
+    ensures stays { before ≢ Verdict.Clear → result ≡ before }
+    ensures law { (moves : List LineMove) → IsVerdict (edges_of scene.now) bit.now moves before
         → IsVerdict (edges_of scene.now) bit.now (moves ++ mv.now ∷ []) result }
 {
     match before {

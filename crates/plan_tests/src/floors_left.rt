@@ -7,9 +7,9 @@ ghost use Rattle.coverage_report.specs.declared.cover.TheConstants.{MOST_PITCH};
 ghost use Rattle.flat_bit.specs.Left.{AreLevel};
 
 use crate::small::{Loop, scene_of};
-use coverage_report::{CoverFault, MOST_PITCH};
+use coverage_report::MOST_PITCH;
 use depth_rule::{Scene, deepest};
-use flat_bit::floor_left;
+use flat_bit::{FloorFault, floor_left};
 use plane_exact::{Bit, Chain, MOST_DEPTH, MOST_RADIUS, Node, Point, Uncut};
 use std::alloc::Global;
 use std::test::Fail;
@@ -60,7 +60,7 @@ fn left_of(
     ends: &[Ends],
     radius: u32,
     pitch: u32,
-) -> Result<Result<Uncut, CoverFault>, Fail>
+) -> Result<Result<Uncut, FloorFault>, Fail>
     requires radius { IsFromOneTo MOST_RADIUS radius }
     requires pitch { IsFromOneTo MOST_PITCH pitch }
 {
@@ -131,7 +131,7 @@ fn a_bit_that_must_stay_at_the_surface_leaves_no_floor(rt: HostRuntime) -> Resul
     assert!(rt;
         matches!(
             left_of(rt.alloc(), &grid, 601, &[], 50, 1)?,
-            Err(CoverFault::TooManyPoints)
+            Err(FloorFault::TooManyPoints)
         )
     );
     Ok(())

@@ -3,11 +3,11 @@ ghost use Rattle.plane_exact.specs.Cone.{IsFromOneTo};
 ghost use Rattle.plane_exact.specs.declared.moves.TheConstants.{MOST_DEPTH};
 ghost use Rattle.coverage_report.specs.declared.cover.TheConstants.{MOST_PITCH};
 
-use coverage_report::{CoverFault, MOST_PITCH};
+use coverage_report::MOST_PITCH;
 use plane_exact::{Bit, Chain, MOST_DEPTH, Point, Seg};
 use std::alloc::Global;
 use std::test::Fail;
-use stroke_engrave::{stroke_chains, stroke_cut};
+use stroke_engrave::{CutFault, stroke_chains, stroke_cut};
 
 // The two ends of a stroke.
 type Ends = ((i64, i64), (i64, i64));
@@ -52,8 +52,7 @@ fn counts(
     requires pitch { IsFromOneTo MOST_PITCH pitch }
 {
     let bit = Bit::new(slope.0, slope.1, 600).ok_or("a bit")?;
-    let count = stroke_cut(alloc, &strokes_of(alloc, ends)?, &bit, depth, pitch)?;
-    Ok((count.cut, count.points))
+    Ok(stroke_cut(alloc, &strokes_of(alloc, ends)?, &bit, depth, pitch)?)
 }
 
 #[test]
@@ -88,7 +87,7 @@ fn points_in_the_disc_are_counted(rt: HostRuntime) -> Result<(), Fail> {
     assert!(rt;
         matches!(
             stroke_cut(a, &grid, &bit, 10, 1),
-            Err(CoverFault::TooManyPoints)
+            Err(CutFault::TooManyPoints)
         )
     );
     Ok(())

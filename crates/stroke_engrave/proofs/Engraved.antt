@@ -1,7 +1,7 @@
 -- What the moves along chains remove is what is near the strokes that they lead along.
 use Rattle.std.specs.Prelude.{◌↔◌, flat_map, map, neg_ℤ, ◌≤ℤ◌}
 use Rattle.std.specs.List.{All, Any}
-use Rattle.std.proofs.Common.{◌≡◌, ◌⊎◌, ◌+◌, ◌≤◌, ℕ, List, [], ◌∷◌, ◌++◌, pos, ◌*ℤ◌, ap, inl, inr, subst, sym, arith}
+use Rattle.std.proofs.Common.{◌≡◌, ◌⊎◌, ◌≤◌, ℕ, List, [], ◌∷◌, ◌++◌, pos, ◌*ℤ◌, ap, inl, inr, subst, sym, arith}
 use Rattle.std.proofs.lemmas.Int.{ints}
 use Rattle.std.proofs.lemmas.List.Elements.{All-head, All-tail}
 use Rattle.std.proofs.lemmas.List.Sorted.{All-permutation}
@@ -12,7 +12,7 @@ use Rattle.plane_exact.specs.Plane.{GridPoint, RationalPoint}
 use Rattle.plane_exact.specs.declared.moves.LineMove.{LineMove}
 use Rattle.plane_exact.specs.declared.point.Seg.{Seg}
 use Rattle.engrave_model.specs.Removal.{Removes}
-use Rattle.gcode_text.specs.Path.{chain_moves, chain_places, moves_along, moves_through}
+use Rattle.gcode_text.specs.Path.{chain_moves, chain_places, moves_along}
 use Rattle.gcode_text.specs.declared.job.Job.{Job}
 use Rattle.swept_move.proofs.Cuts.{removes_nothing}
 use Rattle.stroke_engrave.specs.Chains.{chains_of}

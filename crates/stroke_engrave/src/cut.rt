@@ -9,12 +9,12 @@ ghost use Rattle.stroke_engrave.specs.Moves.{stroke_move};
 
 use crate::bounds::stroke_bounds;
 use crate::node::node_at;
-use coverage_report::{CoverFault, CutCount, MOST_PITCH, count_cut};
+use coverage_report::{CoverFault as CutFault, MOST_PITCH, count_cut};
 use plane_exact::{Bit, LineMove, MOST_DEPTH, Move, Seg};
 use std::alloc::{AllocError, Global};
 
-/// How many points of the box round the strokes have both coordinates, in grid units, multiples of the pitch, and how many of these lie in
-/// the open disc that the bit cuts at the depth over some point of some stroke. The box is that of the strokes' ends, widened on each
+/// Two counts: how many points are cut, and how many there are. The points are those of the box round the strokes with both coordinates, in
+/// grid units, multiples of the pitch; those are cut that lie in the open disc that the bit cuts at the depth over some point of some stroke. The box is that of the strokes' ends, widened on each
 /// side by the least whole number that is at least the disc's radius, and cut to the coordinates. The depth and the pitch are from 1 to
 /// 32,767 grid units. It is a fault if there are more than 16,777,216 points.
 pub fn stroke_cut(
@@ -23,16 +23,17 @@ pub fn stroke_cut(
     bit: &Bit,
     depth: u32,
     pitch: u32,
-) -> Result<CutCount, CoverFault>
+) -> Result<(u64, u64), CutFault>
     requires depth { IsFromOneTo MOST_DEPTH depth }
     requires pitch { IsFromOneTo MOST_PITCH pitch }
-    ensures { MatchResult result (λ count. AreStrokeCounts bit.now depth strokes.now pitch count.cut count.points) (λ fault. IsReportFault (IsStrokePoint bit.now depth strokes.now pitch) fault) }
+    ensures { MatchResult result (λ counts. AreStrokeCounts bit.now depth strokes.now pitch counts.0 counts.1) (λ fault. IsReportFault (IsStrokePoint bit.now depth strokes.now pitch) fault) }
 {
     let Some(bounds) = stroke_bounds(strokes, bit, depth) else {
-        return Ok(CutCount { cut: 0, points: 0 });
+        return Ok((0, 0));
     };
     let moves = stroke_moves(alloc, strokes, depth)?;
-    count_cut(alloc, bounds, bit, &moves, pitch)
+    let count = count_cut(alloc, bounds, bit, &moves, pitch)?;
+    Ok((count.cut, count.points))
 }
 
 // The moves along the strokes at the depth.

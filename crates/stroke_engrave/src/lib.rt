@@ -11,4 +11,5 @@ pub mod law;
 mod node;
 
 pub use chains::stroke_chains;
+pub use coverage_report::CoverFault as CutFault;
 pub use cut::stroke_cut;

@@ -67,8 +67,8 @@ fn text_of(
     let chains = stroke_chains(alloc, strokes, depth)?;
     let numbers = order(alloc, &chains)?;
     let ordered = in_order(alloc, chains, &numbers)?;
-    let count = stroke_cut(alloc, strokes, &job.bit, depth, pitch)?;
+    let (cut, points) = stroke_cut(alloc, strokes, &job.bit, depth, pitch)?;
     let number = strokes.len() as u32;
-    let text = write_strokes(alloc, job, number, depth, &ordered, count.cut, count.points)?;
+    let text = write_strokes(alloc, job, number, depth, &ordered, cut, points)?;
     Ok(text)
 }

@@ -15,11 +15,11 @@ order-requires c =
     let within = chains_few c.args.depth c.args.strokes.now c.requires.few in
     subst (λ chains. length chains ≤ MOST_CHAINS) (sym (c.deref.ensures.value ∙ c.in_ok-chains.ensures.value)) within.chains_le
 
-pub returns-in_err-count-clause-value : goal.returns-in_err-count-clause-value
-returns-in_err-count-clause-value c =
-    refused_is_answered _ (IsEngravedOrRefused c.args.job.now c.args.depth c.args.pitch c.args.strokes.now) c.from_residual-in_err-count.result (cover_refusal c.in_err-count.field-0.0)
-    c.from_residual-in_err-count.ensures.0 c.from_residual-in_err-count.ensures.1
-    (uncounted c.args.job.now c.args.depth c.args.pitch c.args.strokes.now c.in_err-count.field-0.0 c.in_err-count.ensures)
+pub returns-in_err-cut-clause-value : goal.returns-in_err-cut-clause-value
+returns-in_err-cut-clause-value c =
+    refused_is_answered _ (IsEngravedOrRefused c.args.job.now c.args.depth c.args.pitch c.args.strokes.now) c.from_residual-in_err-cut.result (cover_refusal c.in_err-cut.field-0.0)
+    c.from_residual-in_err-cut.ensures.0 c.from_residual-in_err-cut.ensures.1
+    (uncounted c.args.job.now c.args.depth c.args.pitch c.args.strokes.now c.in_err-cut.field-0.0 c.in_err-cut.ensures)
 
 pub returns-clause-value : goal.returns-clause-value
 returns-clause-value c =
@@ -27,7 +27,7 @@ returns-clause-value c =
     let made = c.in_ok-chains.ensures.value in
     let numbers = c.in_ok-numbers.numbers.items in
     let ordered = subst (λ chains. IsOrder chains numbers) (c.deref.ensures.value ∙ made) c.in_ok-numbers.ensures in
-    inl (engraved c.args.job.now c.args.depth c.args.pitch c.args.strokes.now numbers ordered c.requires.few c.deref-3.result.now c.in_ok-count.count.cut c.in_ok-count.count.points
+    inl (engraved c.args.job.now c.args.depth c.args.pitch c.args.strokes.now numbers ordered c.requires.few c.deref-3.result.now c.in_ok-cut.cut c.in_ok-cut.points
     c.in_ok-text.text.items c.requires.depth.low
     (c.deref-3.ensures.value ∙ c.in_ok-ordered.ensures ∙ ap (map (chain_at chains)) c.deref-2.ensures.value ∙ ap (λ chains. map (chain_at chains) numbers) made)
-    c.in_ok-count.ensures c.in_ok-text.ensures.text c.in_ok-text.ensures.read_back)
+    c.in_ok-cut.ensures c.in_ok-text.ensures.text c.in_ok-text.ensures.read_back)

@@ -9,7 +9,7 @@ pub returns-in-Moved-clause-judged : goal.returns-in-Moved-clause-judged
 returns-in-Moved-clause-judged c = λ bytes judged.
     let fed = c.byte.ensures in
     moved (edges_of c.args.scene.now) c.args.bit.now _ _ fed.units bytes c.args.byte c.in-Moved.mv _ _ _
-    (sym c.in-Moved.is ∙ fed.turn) (fed.stands bytes judged.stands) c.next_verdict-self.ensures judged
+    (sym c.in-Moved.is ∙ fed.turn) (fed.stands bytes judged.stands) c.next_verdict-self.ensures.law judged
 
 pub returns-in-Nothing-clause-judged : goal.returns-in-Nothing-clause-judged
 returns-in-Nothing-clause-judged c = λ bytes judged.
