@@ -169,7 +169,7 @@ def row(program, drawing, make, path):
 
 
 def main():
-    parser = argparse.ArgumentParser()
+    parser = argparse.ArgumentParser(description=__doc__, formatter_class=argparse.RawDescriptionHelpFormatter)
     parser.add_argument("--program", default=BUILT)
     parser.add_argument("--markdown", action="store_true", help="prints the table of docs/PEERS.md")
     options = parser.parse_args()
