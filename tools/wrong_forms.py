@@ -33,9 +33,9 @@ def last_with_end(segments, p):
 
 def by_the_second(edges):
     """The first pair by the second number, and then the first."""
-    pairs = ((i, j) for j in range(len(edges)) for i in range(j))
+    pairs = ((i, k) for k in range(len(edges)) for i in range(k))
     boxes = [j.box_of(ends) for ends in edges]
-    return next(((i, j) for i, j in pairs if not j.are_apart(boxes[i], boxes[j]) and j.meets_wrongly(edges[i], edges[j])), None)
+    return next(((i, k) for i, k in pairs if not j.are_apart(boxes[i], boxes[k]) and j.meets_wrongly(edges[i], edges[k])), None)
 
 
 def never_along(s, t):
