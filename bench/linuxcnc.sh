@@ -24,6 +24,9 @@ import make_inputs
 folder, moves = Path(sys.argv[1]), int(sys.argv[2])
 make_inputs.write_drawing(folder / "ring.loops", [make_inputs.ring(100)])
 make_inputs.write_code(folder / "code.ngc", make_inputs.short_places(moves))
+# The interpreter wants a feed before it cuts.
+code = (folder / "code.ngc").read_text()
+(folder / "code.ngc").write_text("F400\n" + code)
 END
 )
 # An empty list of tools, and empty parameters.
@@ -42,6 +45,10 @@ ours=$(least "$program" check --drawing="$folder/ring.loops" --code="$folder/cod
 answer=$(cat "$folder/out")
 if [ "$answer" != "clear $moves moves" ]; then
     echo "check answers: $answer"
+    exit 1
+fi
+if ! rs274 -t "$folder/tools" -v "$folder/parameters" -g "$folder/code.ngc" >"$folder/out" 2>&1; then
+    echo "rs274: $(tail -n 1 "$folder/out")"
     exit 1
 fi
 theirs=$(least rs274 -t "$folder/tools" -v "$folder/parameters" -g "$folder/code.ngc")
