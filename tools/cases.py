@@ -334,7 +334,7 @@ WORKED_FLATS = [
 
 def flat_job(rng, loops, reach, reported):
     """What the floor of the drawing is milled for, by lines with few points; None where all have many."""
-    cone, radius = bit(rng, reach)._replace(rmax=small_radius(rng, min(reach, 20))), rng.choice([1, 1, 2, rng.randint(1, max(1, reach // 3))])
+    cone, radius = bit(rng, reach)._replace(rmax=small_radius(rng, min(reach, 20))), rng.choice([1, 1, 2, rng.randint(1, max(1, min(8191, reach // 3)))])
     way, overs = rng.choice(["x", "y", "both"]), [1, 1, 2, 3, rng.randint(1, 40), rng.randint(1, 8191)]
     few = [over for over in overs if points_on_lines(loops, way, over) <= MOST_MILLED]
     if not few:
