@@ -125,22 +125,28 @@ fn joined(edges: &[Edge]) -> Result<Vec<Vec<Point>>, Point> {
     Ok(loops)
 }
 
-// The first two edges that cross.
-fn first_crossing(loops: &[Vec<Point>]) -> Option<(u32, u32)> {
-    let mut edges = Vec::new();
-    for points in loops {
-        edges.extend((0..points.len()).map(|i| Edge { a: points[i], b: points[(i + 1) % points.len()] }));
+// The edges of loops, one behind the other.
+fn edges_of(loops: &[Vec<Point>]) -> Vec<Edge> {
+    let around = |points: &Vec<Point>| {
+        let points = points.clone();
+        (0..points.len()).map(move |i| Edge { a: points[i], b: points[(i + 1) % points.len()] })
+    };
+    loops.iter().flat_map(around).collect()
+}
+
+impl Scene {
+    // The first two edges that cross.
+    pub fn first_crossing(&mut self) -> Option<(u32, u32)> {
+        (0..self.edges.len()).find_map(|i| {
+            let (edge, i, mut least) = (self.edges[i], i as u32, None);
+            self.near(edge.rect(), |j, other| {
+                if j > i && least.is_none_or(|least| j < least) && edge.crosses(other) {
+                    least = Some(j);
+                }
+            });
+            least.map(|j| (i, j))
+        })
     }
-    let mut scene = Scene::of(edges.clone(), "grid");
-    (0..).zip(edges).find_map(|(i, edge): (u32, Edge)| {
-        let mut least = None;
-        scene.near(edge.rect(), |j, other| {
-            if j > i && least.is_none_or(|least| j < least) && edge.crosses(other) {
-                least = Some(j);
-            }
-        });
-        least.map(|j| (i, j))
-    })
 }
 
 // The sides between black and white, with the axis where black is above them or to their left.
@@ -186,7 +192,7 @@ pub fn flatten(form: &str, name: &str) -> Text {
         Ok(loops) => loops,
         Err(p) => return Text(format!("input open {},{}\n", p.x, p.y).into_bytes()),
     };
-    if let Some((i, j)) = first_crossing(&loops) {
+    if let Some((i, j)) = Scene::of(edges_of(&loops), "grid").first_crossing() {
         return Text(format!("input cross {i},{j}\n").into_bytes());
     }
     for points in &loops {

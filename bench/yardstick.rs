@@ -8,6 +8,7 @@
 //        yardstick near check DRAWING CODE SN/SD RMAX   how many tests of a move against an edge are due
 // METHOD is `grid`: edges are found by a uniform grid of cells, and what is inside by bands of rows; `all`: each question walks
 // all edges, each of them first by its box, and each point of a report all moves; or, for `contacts`, `double`: as `grid`, in double precision, with answers that may be off.
+// But for `all`, it looks first whether edges of the drawing cross, as the program does.
 // It takes the files that make_inputs.py makes, at 100 grid units a millimetre, and judges no fault of a text.
 mod coverage;
 mod outlines;
@@ -248,6 +249,13 @@ impl Scene {
     fn of(edges: Vec<Edge>, method: &str) -> Scene {
         let index = (method != "all").then(|| Index { grid: Grid::build(&edges), bands: Bands::build(&edges) });
         Scene { edges, index }
+    }
+
+    // As `of`, of a drawing whose edges don't cross, which is looked at where there is a grid.
+    fn guarded(edges: Vec<Edge>, method: &str) -> Scene {
+        let mut scene = Scene::of(edges, method);
+        assert!(scene.index.is_none() || scene.first_crossing().is_none(), "the drawing crosses itself");
+        scene
     }
 
     // Visits the edges whose boxes meet q, each once, in any order.
@@ -763,11 +771,11 @@ fn answer(method: &str, words: &[&str]) -> Text {
     let line = |text: String| Text((text + "\n").into_bytes());
     match *words {
         ["probe", drawing, at, slope, rmax] => {
-            let mut scene = Scene::of(read_drawing(drawing).0, method);
+            let mut scene = Scene::guarded(read_drawing(drawing).0, method);
             line(format!("depth {}", greatest_depth(&mut scene, read_point(at), &read_bit(slope, rmax))))
         }
         ["check", drawing, code, slope, rmax] => {
-            let (mut scene, moves) = (Scene::of(read_drawing(drawing).0, method), read_code(code));
+            let (mut scene, moves) = (Scene::guarded(read_drawing(drawing).0, method), read_code(code));
             let bit = read_bit(slope, rmax);
             line(match method {
                 "near" => near_pairs(&mut scene, &moves, &bit).to_string(),
@@ -775,13 +783,13 @@ fn answer(method: &str, words: &[&str]) -> Text {
             })
         }
         ["cover", drawing, code, slope, pitch] => {
-            let (scene, moves) = (Scene::of(read_drawing(drawing).0, method), read_code(code));
+            let (scene, moves) = (Scene::guarded(read_drawing(drawing).0, method), read_code(code));
             coverage::report(&scene, &moves, &read_bit(slope, "0"), pitch.parse().unwrap(), method == "grid")
         }
         ["contacts", drawing, step, rmax] => {
             let (edges, loops) = read_drawing(drawing);
             let (step, rmax) = (step.parse().unwrap(), rmax.parse().unwrap());
-            contacts(&mut Scene::of(edges, method), &loops, step, rmax, method != "double")
+            contacts(&mut Scene::guarded(edges, method), &loops, step, rmax, method != "double")
         }
         ["moves", code] => list(&read_code(code)),
         ["flatten", form, drawing] => outlines::flatten(form, drawing),
