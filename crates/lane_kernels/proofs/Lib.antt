@@ -1,5 +1,5 @@
 -- The lemmas of the crate.
 mod Counted
-mod FourBits
+mod FourTests
 mod Fronts
 mod Zipped
