@@ -8,7 +8,7 @@ use plane_exact::Seg;
 
 // The cells of a level are as few as make so many edges a cell, were they spread evenly: more cells would cost more memory and more
 // steps of an ask over empty ones, fewer cells longer lists.
-const EDGES_IN_CELL: u64 = 2;
+const EDGES_IN_CELL: u64 = 1;
 
 // A side of a cell is so many times the next smaller one.
 const GROWTH: u32 = 4;

@@ -7,8 +7,8 @@ use smallvec::SmallVec;
 // The edges that begin in one cell: their numbers and their boxes, the one beside the other.
 #[derive(Debug, Drop)]
 pub struct Bucket {
-    pub numbers: SmallVec<u32, 4>,
-    pub boxes: SmallVec<Rect, 4>,
+    pub numbers: SmallVec<u32, 2>,
+    pub boxes: SmallVec<Rect, 2>,
 }
 
 // Rows of cells from the place (x0, y0) on, upwards, and in a row from left to right. A level is made of it when it has all its edges.
