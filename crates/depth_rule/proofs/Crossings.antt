@@ -12,10 +12,12 @@ use Rattle.plane_exact.specs.declared.point.Seg.{Seg}
 use Rattle.engrave_model.specs.Crossing.{IsCrossPair, IsCrossing}
 use Rattle.evenodd_region.proofs.Bounds.{along, edge_beyond}
 use Rattle.lane_kernels.specs.Boxes.{is_met}
+use Rattle.lane_kernels.specs.declared.boxes.Rect.{Rect}
 use Rattle.loops_text.specs.Crossing.{IsFirstCrossed}
 use Rattle.loops_text.proofs.Crossings.{same_first}
 use Rattle.segment_grid.specs.Near.{box_of, greater, lesser}
 use Rattle.depth_rule.proofs.Leasts.{IsLeastSoFar, least_none, least_some}
+use Rattle.depth_rule.specs.Together.{IsHeldIn}
 use Rattle.depth_rule.proofs.Aside.{IsBeyond, missed_is_beyond, not_le}
 
 -- ---- edges that cross have boxes that meet
@@ -56,7 +58,7 @@ ordered a b = by_test (int_le a b) refl
         let f = not_le a b e in
         record { low_a = omega (arith, ints); low_b = omega (arith, ints); high_a = omega (arith, ints); high_b = omega (arith, ints) }
 
-module _ (s t : Seg) (w : RationalPoint) (common : IsCommon s t w) where
+module _ (q : Rect) (s t : Seg) (held : IsHeldIn q s) (w : RationalPoint) (common : IsCommon s t w) where
   -- in no direction along an axis t is beyond all of s
   not_past : (α β low : ℤ) → along α β s.a.x s.a.y ≤ℤ low → along α β s.b.x s.b.y ≤ℤ low → ¬ ((low <ℤ along α β t.a.x t.a.y) × (low <ℤ along α β t.b.x t.b.y))
   not_past α β low s_a s_b past =
@@ -64,32 +66,35 @@ module _ (s t : Seg) (w : RationalPoint) (common : IsCommon s t w) where
       let t_b = past.1 in
       apart_along α β (low +ℤ pos 1) low s t w (omega (arith, ints)) s_a s_b (omega (arith, ints)) (omega (arith, ints)) common
 
-  not_beyond : ¬ IsBeyond (box_of s) t
+  not_beyond : ¬ IsBeyond q t
   not_beyond (inl (inl above)) =
-      let s_is = ordered s.a.x s.b.x in
-      let a = s_is.high_a in
-      let b = s_is.high_b in
-      not_past (pos 1) (pos 0) (greater s.a.x s.b.x) (omega (arith, ints)) (omega (arith, ints)) (omega (arith, ints, above.0), omega (arith, ints, above.1))
+      let a = held.0.right in
+      let b = held.1.right in
+      not_past (pos 1) (pos 0) q.x1 (omega (arith, ints)) (omega (arith, ints)) (omega (arith, ints, above.0), omega (arith, ints, above.1))
   not_beyond (inl (inr below)) =
-      let s_is = ordered s.a.x s.b.x in
-      let a = s_is.low_a in
-      let b = s_is.low_b in
-      not_past (neg_ℤ (pos 1)) (pos 0) (neg_ℤ (lesser s.a.x s.b.x)) (omega (arith, ints)) (omega (arith, ints)) (omega (arith, ints, below.0), omega (arith, ints, below.1))
+      let a = held.0.left in
+      let b = held.1.left in
+      not_past (neg_ℤ (pos 1)) (pos 0) (neg_ℤ q.x0) (omega (arith, ints)) (omega (arith, ints)) (omega (arith, ints, below.0), omega (arith, ints, below.1))
   not_beyond (inr (inl above)) =
-      let s_is = ordered s.a.y s.b.y in
-      let a = s_is.high_a in
-      let b = s_is.high_b in
-      not_past (pos 0) (pos 1) (greater s.a.y s.b.y) (omega (arith, ints)) (omega (arith, ints)) (omega (arith, ints, above.0), omega (arith, ints, above.1))
+      let a = held.0.high in
+      let b = held.1.high in
+      not_past (pos 0) (pos 1) q.y1 (omega (arith, ints)) (omega (arith, ints)) (omega (arith, ints, above.0), omega (arith, ints, above.1))
   not_beyond (inr (inr below)) =
-      let s_is = ordered s.a.y s.b.y in
-      let a = s_is.low_a in
-      let b = s_is.low_b in
-      not_past (pos 0) (neg_ℤ (pos 1)) (neg_ℤ (lesser s.a.y s.b.y)) (omega (arith, ints)) (omega (arith, ints)) (omega (arith, ints, below.0), omega (arith, ints, below.1))
+      let a = held.0.low in
+      let b = held.1.low in
+      not_past (pos 0) (neg_ℤ (pos 1)) (neg_ℤ q.y0) (omega (arith, ints)) (omega (arith, ints)) (omega (arith, ints, below.0), omega (arith, ints, below.1))
 
-pub missed_clear : (s t : Seg) → is_met (box_of s) (box_of t) ≡ false → ¬ IsCrossing s t
-missed_clear s t missed crossing =
+-- an edge whose box misses a box crosses no edge that this one holds
+pub missed_clear : (q : Rect) (s t : Seg) → IsHeldIn q s → is_met q (box_of t) ≡ false → ¬ IsCrossing s t
+missed_clear q s t held missed crossing =
     let w = common_point s t crossing in
-    not_beyond s t w.0 w.1 (missed_is_beyond (box_of s) t missed)
+    not_beyond q s t held w.0 w.1 (missed_is_beyond q t missed)
+
+pub own_box : (s : Seg) → IsHeldIn (box_of s) s
+own_box s =
+    let x = ordered s.a.x s.b.x in
+    let y = ordered s.a.y s.b.y in
+    (record { left = x.low_a; right = x.high_a; low = y.low_a; high = y.high_a }, record { left = x.low_b; right = x.high_b; low = y.low_b; high = y.high_b })
 
 -- ---- the first edge that crosses a given one
 
@@ -105,7 +110,7 @@ module _ (edges : List Seg) (i : ℕ) (first : Seg) (is_first : slice_get edges 
   pub clear_missed : (k : ℕ) → ((d : Seg) → is_met (box_of first) (box_of (slice_index_or edges k d)) ≡ false) → IsClearBehind edges i k
   clear_missed k missed pair =
       let second = get_or_from_slice_get edges k pair.second first pair.is_second in
-      missed_clear first pair.second (subst (λ t. is_met (box_of first) (box_of t) ≡ false) second (missed first))
+      missed_clear (box_of first) first pair.second (own_box first) (subst (λ t. is_met (box_of first) (box_of t) ≡ false) second (missed first))
       (subst (λ s. IsCrossing s pair.second) (same_first edges i first is_first k pair) pair.crossing)
 
   pub first_crossed : (least : Option ℕ) (left : List ℕ) → left ≡ [] → IsLeastSoFar (IsClearBehind edges i) (IsCrossedBehind edges i) edges least left → IsFirstCrossed edges i least

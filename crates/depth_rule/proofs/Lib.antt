@@ -14,3 +14,4 @@ pub mod Multiples
 pub mod Parts
 pub mod Safety
 pub mod Exact
+pub mod Following

@@ -10,3 +10,4 @@ pub mod Least
 pub mod Met
 pub mod Parts
 pub mod Ticks
+pub mod Together

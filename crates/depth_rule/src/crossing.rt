@@ -7,6 +7,7 @@ ghost use Rattle.depth_rule.specs.Least.{AtMost};
 
 use crate::least::is_at_most;
 use crate::scene::Scene;
+use crate::together::clear_end;
 use loops_text::crosses;
 use plane_exact::Seg;
 use segment_grid::box_of;
@@ -20,9 +21,17 @@ impl Scene {
     pub fn first_crossing(&self) -> Option<(u32, u32)>
         ensures { IsFirstCrossing (edges_of self.now) result }
     {
-        for i in 0..self.drawing().edges() {
-            if let Some(j) = first_crossed(self, i) {
-                return Some((i, j));
+        let count = self.drawing().edges();
+        let mut i = 0;
+        while i < count {
+            let end = clear_end(self, i);
+            if end == i {
+                if let Some(j) = first_crossed(self, i) {
+                    return Some((i, j));
+                }
+                i += 1;
+            } else {
+                i = end;
             }
         }
         None

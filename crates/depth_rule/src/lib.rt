@@ -17,6 +17,7 @@ mod met;
 mod scene;
 mod steps;
 mod ticks;
+mod together;
 
 pub use bounds::Bounds;
 pub use clear::is_clear;
