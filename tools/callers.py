@@ -24,7 +24,9 @@ def faults():
     rules, part = grammar(), TEXT[TEXT.index("\n## The crates\n"):]
     for case in [Case(words.parent) for words in (TOP / "examples").glob("*/words")]:
         name = {0: case.words[0], 1: "verdict"}.get(case.status, "refusal")
-        if not re.fullmatch(rules[name], case.expected.decode()):
+        if name not in rules:
+            yield f"{case.folder.name}: the grammar has no rule {name}"
+        elif not re.fullmatch(rules[name], case.expected.decode()):
             yield f"{case.folder.name}: what it writes isn't a {name}"
     for crate, calls, _, tests in re.findall(r"^\| `(\w+)` \| (.*) \| (.*) \| (.*) \|$", part, re.M):
         source = "".join(path.read_text() for path in (CRATES / crate / "src").glob("*.rt"))

@@ -32,6 +32,7 @@ import hostile_expected
 import hostile_large as large
 import hostile_rows as rows
 import hostile_words
+import manual_tables
 
 BUILT = Path(__file__).resolve().parent.parent / "crates/engrave_cli/out/engrave_cli"
 BUILD = "(cd crates/engrave_cli && rt run -- probe --drawing=data/plate.loops --at=500,500 --bit=1/1 --rmax=600)"
@@ -450,6 +451,10 @@ def main():
     options = parser.parse_args()
     if not os.access(options.program, os.X_OK):
         print(f"no program at {options.program}; this builds it: {BUILD}")
+        return 2
+    unasked = set(manual_tables.read_source().commands) ^ {name.decode() for name in hostile_expected.OPTIONS}
+    if unasked:
+        print(f"the commands of the program and those that are asked here differ: {' '.join(sorted(unasked))}")
         return 2
     parts, faults, began = {}, [], time.monotonic()
     print(f"a program that does nothing: {floor():.0f} MiB")

@@ -321,4 +321,6 @@ def due(words, files):
         return (range(6) if status is None else (status,)), line
     if command == b"moves":
         return (0,), b"".join(moves) + b"moves %d\n" % len(moves)
-    return (0, 1), b"clear %d moves\n" % len(moves)
+    if command == b"check":
+        return (0, 1), b"clear %d moves\n" % len(moves)
+    raise NotImplementedError(f"what is due for {command.decode()} isn't said here")

@@ -27,8 +27,9 @@ struct Reply {
 ///
 /// The words don't include the program's own name. A refusal writes its one line; running out of memory writes nothing;
 /// where the output fails, a front part of the text was written.
-// If you change this: a new command changes no clause here, only what is due for it. A clause is never weakened to let a
-// body pass; where the outside may do one more thing, it gets a clause of its own that names the cause.
+// If you change this: a new command changes no clause here, only what is due for it; where its `Done` says more than its text, it
+// adds one. A clause is never weakened to let a body pass; where the outside may do one more thing, it gets a clause of its own that
+// names the cause.
 pub fn engrave<D: Depot, S: Sink>(
     alloc: Global,
     words: &[String],
