@@ -198,6 +198,8 @@ def page_faults(manual, source):
     for name in source.ranges:
         if numbers_in(limited.get(name, ""))[:2] != source.ranges[name]:
             yield f"LIMITS.md: the range of --{name}, which is {source.ranges[name]}"
+    listed = re.findall(r"^\| `(\w+)` \|", (TOP / "README.md").read_text().split("\n## ")[0], re.M)
+    yield from (f"README.md: the command {name}" for name in sorted(set(listed) ^ set(source.commands)))
 
 
 def faults(manual, source):
