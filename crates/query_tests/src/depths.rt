@@ -1,55 +1,45 @@
 // A plate and a lug beside it: their bounding box, rows of points, and moves over them; and the first edges that cross.
+use crate::scenes::{push_square, scene_of, spot};
 use depth_rule::{Met, Scene, clearance, first_met, is_clear};
 use loops_text::Drawing;
-use plane_exact::{Bit, Move, Point, Spot};
+use plane_exact::{Bit, Move, Point};
 use std::alloc::Global;
-use std::test::Fail;
-
-const PLATE: [(i64, i64); 4] = [(0, 0), (90, 0), (90, 70), (0, 70)];
-
-const LUG: [(i64, i64); 3] = [(95, -20), (99, 10), (91, 10)];
-
-// The scene of some loops.
-fn scene_of(alloc: Global, loops: &[&[(i64, i64)]]) -> Result<Scene, Fail> {
-    let mut drawing = Drawing::empty(alloc);
-    for corners in loops {
-        let mut points = Vec::new(alloc);
-        for (x, y) in *corners {
-            points.push(Point::new(*x, *y).ok_or("a corner")?)?;
-        }
-        drawing.push_loop(&points)?;
-    }
-    Ok(Scene::new(alloc, drawing)?)
-}
 
 // The plate, and the lug beside it.
-fn plate(alloc: Global) -> Result<Scene, Fail> {
-    scene_of(alloc, &[&PLATE, &LUG])
+const PLATE: &[u8] = b"0,0 90,0 90,70 0,70\n95,-20 99,10 91,10\n";
+
+// The left, lower, right and upper sides of the box about the loops.
+fn sides_of_box(alloc: Global, loops: &[u8]) -> Option<[i32; 4]> {
+    let scene = scene_of(alloc, loops)?;
+    let bounds = scene.bounds()?;
+    let (low, high) = (bounds.low, bounds.high);
+    Some([low.x(), low.y(), high.x(), high.y()])
 }
 
-// The spot over (x, y) at the height h, in tenths of a grid unit.
-fn spot(x: i32, y: i32, h: i32) -> Result<Spot, Fail> {
-    if 0 <= x && x <= 30_000 && 0 <= y && y <= 30_000 && -1000 <= h && h <= 1000 {
-        Ok(Spot { x, y, h })
-    } else {
-        Err(Fail::from("a spot"))
-    }
-}
-
-#[test]
-fn bounds_hold_all_loops(rt: HostRuntime) -> Result<(), Fail> {
-    let bounds = plate(rt.alloc())?.bounds().ok_or("bounds")?;
-    assert_eq!(rt; bounds.low, Point::new(0, -20).ok_or("low")?);
-    assert_eq!(rt; bounds.high, Point::new(99, 70).ok_or("high")?);
-    let nothing = Scene::new(rt.alloc(), Drawing::empty(rt.alloc()))?;
-    assert!(rt; nothing.bounds().is_none());
-    Ok(())
+fn has_box(alloc: Global, loops: &[u8]) -> Option<bool> {
+    let scene = scene_of(alloc, loops)?;
+    Some(scene.bounds().is_some())
 }
 
 #[test]
-fn a_move_is_clear_until_the_bit_touches_an_edge(rt: HostRuntime) -> Result<(), Fail> {
-    let scene = plate(rt.alloc())?;
-    let bit = Bit::new(1, 1, 100).ok_or("bit")?;
+fn bounds_hold_all_loops(rt: HostRuntime) {
+    assert_eq!(rt; sides_of_box(rt.alloc(), PLATE), Some([0, -20, 99, 70]));
+    assert_eq!(rt; has_box(rt.alloc(), b""), Some(false));
+}
+
+// Whether the move over the plate to the right, to x = to at the height h, is clear.
+fn is_clear_to(alloc: Global, to: i16, h: i16) -> Option<bool> {
+    let bit = Bit::new(1, 1, 100)?;
+    let scene = scene_of(alloc, PLATE)?;
+    let mv = Move {
+        from: spot(400, 350, h),
+        to: spot(to, 350, h),
+    };
+    Some(is_clear(&scene, &bit, &mv))
+}
+
+#[test]
+fn a_move_is_clear_until_the_bit_touches_an_edge(rt: HostRuntime) {
     for (to, h, want) in [
         (800, -100, true),
         (801, -100, false),
@@ -57,13 +47,12 @@ fn a_move_is_clear_until_the_bit_touches_an_edge(rt: HostRuntime) -> Result<(), 
         (500, -350, true),
         (500, -351, false),
     ] {
-        let mv = Move {
-            from: spot(400, 350, h)?,
-            to: spot(to, 350, h)?,
-        };
-        assert_eq!(rt; is_clear(&scene, &bit, &mv), want, "to {to} at {h}");
+        assert_eq!(rt;
+            is_clear_to(rt.alloc(), to, h),
+            Some(want),
+            "to {to} at {h}"
+        );
     }
-    Ok(())
 }
 
 // Where the holes of the sieve begin along each axis.
@@ -72,33 +61,15 @@ const PLACES: [i64; 15] = [
 ];
 
 // A plate of 3000 by 3000 with 15 by 15 square holes of 20 by 20, whose middles are 200 apart, from (100, 100) on.
-fn sieve(alloc: Global) -> Result<Scene, Fail> {
+fn sieve(alloc: Global) -> Option<Scene> {
     let mut drawing = Drawing::empty(alloc);
-    push_square(alloc, &mut drawing, 0, 0, 3000)?;
+    push_square(&mut drawing, 0, 0, 3000)?;
     for y in PLACES {
         for x in PLACES {
-            push_square(alloc, &mut drawing, x, y, 20)?;
+            push_square(&mut drawing, x, y, 20)?;
         }
     }
-    Ok(Scene::new(alloc, drawing)?)
-}
-
-// Adds the square of this side from (x, y) on.
-fn push_square(
-    alloc: Global,
-    drawing: &mut Drawing,
-    x: i64,
-    y: i64,
-    side: i64,
-) -> Result<(), Fail> {
-    let mut points = Vec::new(alloc);
-    for (right, up) in [(0, 0), (side, 0), (side, side), (0, side)] {
-        let x = x.checked_add(right).ok_or("x")?;
-        let y = y.checked_add(up).ok_or("y")?;
-        points.push(Point::new(x, y).ok_or("a corner")?)?;
-    }
-    drawing.push_loop(&points)?;
-    Ok(())
+    Scene::new(alloc, drawing).ok()
 }
 
 // What the move meets, where it may be asked.
@@ -110,10 +81,19 @@ fn met_by(scene: &Scene, bit: &Bit, mv: &Move) -> Option<Met> {
     }
 }
 
+// What the move over the sieve at the height h meets.
+fn met_in_sieve(alloc: Global, from: (i16, i16), to: (i16, i16), h: i16) -> Option<Met> {
+    let bit = Bit::new(1, 1, 100)?;
+    let scene = sieve(alloc)?;
+    let mv = Move {
+        from: spot(from.0, from.1, h),
+        to: spot(to.0, to.1, h),
+    };
+    met_by(&scene, &bit, &mv)
+}
+
 #[test]
-fn a_long_slanted_move_meets_the_least_edge(rt: HostRuntime) -> Result<(), Fail> {
-    let scene = sieve(rt.alloc())?;
-    let bit = Bit::new(1, 1, 100).ok_or("bit")?;
+fn a_long_slanted_move_meets_the_least_edge(rt: HostRuntime) {
     // The way between the holes keeps 40 times the root of 2, some 56.57, from their corners. The first that it meets in the second
     // row has the edges 64 to 67; before its start there is one in the first row, 58.3 away.
     let (low, high) = ((600, 1600), (28_400, 29_400));
@@ -128,22 +108,26 @@ fn a_long_slanted_move_meets_the_least_edge(rt: HostRuntime) -> Result<(), Fail>
         // Along the lower side, 30 away from it, and 60 from the first row.
         ((300, 300), (29_700, 300), -300, Met::Nothing),
     ] {
-        let mv = Move {
-            from: spot(from.0, from.1, h)?,
-            to: spot(to.0, to.1, h)?,
-        };
         assert_eq!(rt;
-            met_by(&scene, &bit, &mv),
+            met_in_sieve(rt.alloc(), from, to, h),
             Some(want),
             "from {from:?} at {h}"
         );
     }
-    Ok(())
+}
+
+// The clearance of (x, y) in a square with a side of 1000.
+fn clearance_at(alloc: Global, x: i64, y: i64, cap: u32) -> Option<u32> {
+    if cap > 600 {
+        return None;
+    }
+    let p = Point::new(x, y)?;
+    let scene = scene_of(alloc, b"0,0 1000,0 1000,1000 0,1000\n")?;
+    Some(clearance(&scene, p, cap))
 }
 
 #[test]
-fn a_clearance_is_how_far_the_edges_are(rt: HostRuntime) -> Result<(), Fail> {
-    let scene = scene_of(rt.alloc(), &[&[(0, 0), (1000, 0), (1000, 1000), (0, 1000)]])?;
+fn a_clearance_is_how_far_the_edges_are(rt: HostRuntime) {
     for (x, y, cap, want) in [
         (500, 500, 600, 500),
         (500, 500, 300, 300),
@@ -155,63 +139,76 @@ fn a_clearance_is_how_far_the_edges_are(rt: HostRuntime) -> Result<(), Fail> {
         (-30, -40, 600, 50),
         (-31, -40, 600, 50),
     ] {
-        let p = Point::new(x, y).ok_or("a point")?;
         assert_eq!(rt;
-            clearance(&scene, p, cap),
-            want,
+            clearance_at(rt.alloc(), x, y, cap),
+            Some(want),
             "at ({x}, {y}) up to {cap}"
         );
     }
-    Ok(())
 }
 
-#[test]
-fn rows_of_points_are_marked_where_they_are_inside(rt: HostRuntime) -> Result<(), Fail> {
-    let scene = plate(rt.alloc())?;
+// The words of two rows, the second of which is shorter than the words that it is given.
+fn marked_rows(alloc: Global) -> Option<[[u64; 2]; 2]> {
+    let scene = scene_of(alloc, PLATE)?;
     let mut bits = [0; 2];
-    // The points from -5 to 65 in steps of 1: those from 1 on are inside.
     scene.row_inside(35, -5, 1, 71, &mut bits);
-    assert_eq!(rt; bits, [u64::MAX << 6, 127]);
-    // Over the plate's right side at 90 into the lug.
+    let long = bits;
     scene.row_inside(5, 86, 2, 7, &mut bits[..1]);
-    assert_eq!(rt; bits, [0b111_1011, 127]);
-    Ok(())
+    Some([long, bits])
 }
 
 #[test]
-fn the_first_edges_that_cross_are_found(rt: HostRuntime) -> Result<(), Fail> {
-    let square: &[(i64, i64)] = &[(0, 0), (100, 0), (100, 100), (0, 100)];
-    for (loops, want) in [
-        (&[square] as &[&[(i64, i64)]], None),
-        (&[], None),
-        // There and back on one line.
-        (&[&[(0, 0), (1, 0)]], Some((0, 1))),
-        // The corners touch, and nothing else.
-        (
-            &[square, &[(100, 100), (200, 100), (200, 200), (100, 200)]],
-            None,
-        ),
-        // A corner on the right side touches it.
-        (&[square, &[(100, 50), (150, 20), (150, 80)]], Some((1, 4))),
-        // Through the right side, and then through the top.
-        (&[square, &[(50, 50), (150, 50), (150, 150)]], Some((1, 4))),
-        (
-            &[
-                &[(0, 0), (200, 0), (200, 200), (0, 200)],
-                &[(100, 100), (300, 100), (300, 300), (100, 300)],
-            ],
-            Some((1, 4)),
-        ),
-        // A bow tie.
-        (
-            &[&[(0, 0), (10, 10), (10, 0), (0, 10)], square],
-            Some((0, 2)),
-        ),
-        // Along a part of the top.
-        (&[square, &[(20, 100), (60, 100), (40, 120)]], Some((2, 4))),
-    ] {
-        let scene = scene_of(rt.alloc(), loops)?;
-        assert_eq!(rt; scene.first_crossing(), want, "{loops:?}");
+fn rows_of_points_are_marked_where_they_are_inside(rt: HostRuntime) {
+    // The points from -5 to 65 in steps of 1: those from 1 on are inside. And over the plate's right side at 90 into the lug.
+    let want = [[u64::MAX << 6, 127], [0b111_1011, 127]];
+    assert_eq!(rt; marked_rows(rt.alloc()), Some(want));
+}
+
+fn first_crossing(alloc: Global, loops: &[u8]) -> Option<Option<(u32, u32)>> {
+    let scene = scene_of(alloc, loops)?;
+    Some(scene.first_crossing())
+}
+
+// Loops, and the numbers of their first edges that cross.
+const CROSSINGS: [(&[u8], Option<(u32, u32)>); 9] = [
+    (b"0,0 100,0 100,100 0,100\n", None),
+    (b"", None),
+    // There and back on one line.
+    (b"0,0 1,0\n", Some((0, 1))),
+    // The corners touch, and nothing else.
+    (
+        b"0,0 100,0 100,100 0,100\n100,100 200,100 200,200 100,200\n",
+        None,
+    ),
+    // A corner on the right side touches it.
+    (
+        b"0,0 100,0 100,100 0,100\n100,50 150,20 150,80\n",
+        Some((1, 4)),
+    ),
+    // Through the right side, and then through the top.
+    (
+        b"0,0 100,0 100,100 0,100\n50,50 150,50 150,150\n",
+        Some((1, 4)),
+    ),
+    (
+        b"0,0 200,0 200,200 0,200\n100,100 300,100 300,300 100,300\n",
+        Some((1, 4)),
+    ),
+    // A bow tie.
+    (
+        b"0,0 10,10 10,0 0,10\n0,0 100,0 100,100 0,100\n",
+        Some((0, 2)),
+    ),
+    // Along a part of the top.
+    (
+        b"0,0 100,0 100,100 0,100\n20,100 60,100 40,120\n",
+        Some((2, 4)),
+    ),
+];
+
+#[test]
+fn the_first_edges_that_cross_are_found(rt: HostRuntime) {
+    for (loops, want) in CROSSINGS {
+        assert_eq!(rt; first_crossing(rt.alloc(), loops), Some(want), "{loops:?}");
     }
-    Ok(())
 }

@@ -1,45 +1,26 @@
 // Contacts and discs of small drawings. The expected discs were computed in fractions by another program.
+use crate::scenes::{drawing_of, push_square, scene_of};
 use depth_rule::Scene;
 use loops_text::Drawing;
 use plane_exact::Point;
 use std::alloc::Global;
-use std::test::Fail;
 use tangent_disc::{Contact, ContactFault, Disc, Side, contacts, tangent};
 
-type Corner = (i64, i64);
-
-const SQUARE: [Corner; 4] = [(0, 0), (1000, 0), (1000, 1000), (0, 1000)];
+const SQUARE: &[u8] = b"0,0 1000,0 1000,1000 0,1000\n";
 
 // The same square the other way round.
-const MIRRORED: [Corner; 4] = [(0, 0), (0, 1000), (1000, 1000), (1000, 0)];
+const MIRRORED: &[u8] = b"0,0 0,1000 1000,1000 1000,0\n";
 
-const SLIVER: [Corner; 3] = [(0, 0), (3000, 7), (3000, 0)];
+const SLIVER: &[u8] = b"0,0 3000,7 3000,0\n";
 
 // With a corner at (300, 300) that points inwards.
-const ANGLE: [Corner; 6] = [
-    (0, 0),
-    (900, 0),
-    (900, 300),
-    (300, 300),
-    (300, 900),
-    (0, 900),
-];
+const ANGLE: &[u8] = b"0,0 900,0 900,300 300,300 300,900 0,900\n";
 
-const PLATE: [Corner; 4] = [(0, 0), (2000, 0), (2000, 2000), (0, 2000)];
-
-// A hole in the plate, with a corner towards its lower edge.
-const HOLE: [Corner; 3] = [(1000, 301), (1100, 900), (900, 900)];
-
-// The greatest square.
-const WHOLE: [Corner; 4] = [
-    (-32_768, -32_768),
-    (32_767, -32_768),
-    (32_767, 32_767),
-    (-32_768, 32_767),
-];
+// A plate, and a hole in it with a corner towards its lower edge.
+const PLATE: &[u8] = b"0,0 2000,0 2000,2000 0,2000\n1000,301 1100,900 900,900\n";
 
 // An edge, with k and n of a contact on it, and rmax; and what is wanted there.
-type Row = ((u32, u32, u32), u32, Side, u32, Corner);
+type Row = ((u32, u32, u32), u32, Side, u32, (i64, i64));
 
 const IN_SQUARE: [Row; 6] = [
     ((0, 0, 4), 600, Side::Nowhere, 0, (0, 0)),
@@ -72,15 +53,6 @@ const ROUND_HOLE: [Row; 3] = [
     ((4, 0, 1), 8191, Side::Right, 258, (1254, 259)),
 ];
 
-fn add_loop(alloc: Global, drawing: &mut Drawing, corners: &[Corner]) -> Result<(), Fail> {
-    let mut points = Vec::new(alloc);
-    for (x, y) in corners {
-        points.push(Point::new(*x, *y).ok_or("a corner")?)?;
-    }
-    drawing.push_loop(&points).ok().ok_or("a loop")?;
-    Ok(())
-}
-
 // The disc at k / n of the edge; None where there is no such contact.
 fn disc_at(scene: &Scene, edge: u32, k: u32, n: u32, rmax: u32) -> Option<Disc> {
     if edge >= scene.drawing().edges() || n < 1 || n > 8192 || k > n || rmax < 1 || rmax > 8191 {
@@ -95,25 +67,12 @@ fn disc_at(scene: &Scene, edge: u32, k: u32, n: u32, rmax: u32) -> Option<Disc> 
     Some(tangent(scene, &c, rmax))
 }
 
-// Whether the drawing of the outline and the hole, which may be missing, answers each row as it is wanted.
-fn are_right(
-    alloc: Global,
-    outline: &[Corner],
-    hole: &[Corner],
-    rows: &[Row],
-) -> Result<bool, Fail> {
-    let mut drawing = Drawing::empty(alloc);
-    add_loop(alloc, &mut drawing, outline)?;
-    if !hole.is_empty() {
-        add_loop(alloc, &mut drawing, hole)?;
-    }
-    let scene = Scene::new(alloc, drawing)?;
-    for row in rows {
-        if !is_right(&scene, row) {
-            return Ok(false);
-        }
-    }
-    Ok(true)
+// Whether the drawing of the text answers each row as it is wanted.
+fn are_right(alloc: Global, loops: &[u8], rows: &[Row]) -> bool {
+    let Some(scene) = scene_of(alloc, loops) else {
+        return false;
+    };
+    rows.iter().all(|row| is_right(&scene, row))
 }
 
 fn is_right(scene: &Scene, row: &Row) -> bool {
@@ -124,83 +83,130 @@ fn is_right(scene: &Scene, row: &Row) -> bool {
     disc.side == side && disc.j == j && Point::new(x, y) == Some(disc.centre)
 }
 
-#[test]
-fn contacts_go_edge_by_edge(rt: HostRuntime) -> Result<(), Fail> {
-    let mut drawing = Drawing::empty(rt.alloc());
-    add_loop(rt.alloc(), &mut drawing, &SQUARE)?;
-    let listed = contacts(rt.alloc(), &drawing, 250).ok().ok_or("contacts")?;
-    let mut expected = Vec::new(rt.alloc());
+// The contacts that the square is to have: at each quarter of each of its four edges.
+fn in_quarters(alloc: Global) -> Option<Vec<Contact>> {
+    let mut expected = Vec::new(alloc);
     for edge in 0..4u32 {
         for k in 0..5u32 {
-            expected.push(Contact {
+            let contact = Contact {
                 loop_no: 0,
                 edge,
                 k,
                 n: 4,
-            })?;
+            };
+            expected.push(contact).ok()?;
         }
     }
-    assert_eq!(rt; listed.as_slice(), expected.as_slice());
-    Ok(())
+    Some(expected)
+}
+
+fn are_in_quarters(alloc: Global) -> Option<bool> {
+    let drawing = drawing_of(alloc, SQUARE)?;
+    let listed = contacts(alloc, &drawing, 250).ok()?;
+    let expected = in_quarters(alloc)?;
+    Some(listed.as_slice() == expected.as_slice())
 }
 
 #[test]
-fn faults_of_contacts(rt: HostRuntime) -> Result<(), Fail> {
-    let mut whole = Drawing::empty(rt.alloc());
-    add_loop(rt.alloc(), &mut whole, &WHOLE)?;
-    let listed = contacts(rt.alloc(), &whole, 8).ok().ok_or("contacts")?;
-    assert_eq!(rt; listed.len(), 32_772);
-    let fault = contacts(rt.alloc(), &whole, 7).err();
-    assert_eq!(rt; fault, Some(ContactFault::StepTooFine(0)));
-    // 31 of these squares have 1,015,932 contacts, and 32 more than are taken.
-    for _ in 0..30 {
-        add_loop(rt.alloc(), &mut whole, &WHOLE)?;
+fn contacts_go_edge_by_edge(rt: HostRuntime) {
+    assert_eq!(rt; are_in_quarters(rt.alloc()), Some(true));
+}
+
+// So many times the greatest square.
+fn wholes(alloc: Global, count: u32) -> Option<Drawing> {
+    let mut drawing = Drawing::empty(alloc);
+    for _ in 0..count {
+        push_square(&mut drawing, -32_768, -32_768, 65_535)?;
     }
-    let listed = contacts(rt.alloc(), &whole, 8).ok().ok_or("contacts")?;
-    assert_eq!(rt; listed.len(), 1_015_932);
-    add_loop(rt.alloc(), &mut whole, &WHOLE)?;
-    let fault = contacts(rt.alloc(), &whole, 8).err();
-    assert_eq!(rt; fault, Some(ContactFault::TooMany));
-    Ok(())
+    Some(drawing)
+}
+
+// How many contacts so many of the greatest squares have at this step, which is from 1 on.
+fn count_in_wholes(alloc: Global, count: u32, step: u8) -> Result<usize, ContactFault> {
+    let Some(drawing) = wholes(alloc, count) else {
+        return Err(ContactFault::Memory);
+    };
+    match contacts(alloc, &drawing, u32::from(step.max(1))) {
+        Ok(listed) => Ok(listed.len()),
+        Err(fault) => Err(fault),
+    }
 }
 
 #[test]
-fn discs_at_contacts(rt: HostRuntime) -> Result<(), Fail> {
-    assert!(rt; are_right(rt.alloc(), &SQUARE, &[], &IN_SQUARE)?);
-    assert!(rt; are_right(rt.alloc(), &MIRRORED, &[], &IN_MIRRORED)?);
-    assert!(rt; are_right(rt.alloc(), &SLIVER, &[], &IN_SLIVER)?);
-    assert!(rt; are_right(rt.alloc(), &ANGLE, &[], &IN_ANGLE)?);
-    assert!(rt; are_right(rt.alloc(), &PLATE, &HOLE, &ROUND_HOLE)?);
-    Ok(())
+fn faults_of_contacts(rt: HostRuntime) {
+    // 31 of these squares have 1,015,932 contacts, and 32 more than are taken.
+    for (count, step, want) in [
+        (1, 8, Ok(32_772)),
+        (1, 7, Err(ContactFault::StepTooFine(0))),
+        (31, 8, Ok(1_015_932)),
+        (32, 8, Err(ContactFault::TooMany)),
+    ] {
+        assert_eq!(rt;
+            count_in_wholes(rt.alloc(), count, step),
+            want,
+            "{count} squares at {step}"
+        );
+    }
 }
 
-// 128 rows of 128 squares with a side of 100: in the middle of each of their 65,536 edges a disc of the greatest number is free, and at
-// the corners none is.
 #[test]
-fn discs_of_many_squares(rt: HostRuntime) -> Result<(), Fail> {
-    let mut drawing = Drawing::empty(rt.alloc());
+fn discs_at_contacts(rt: HostRuntime) {
+    assert!(rt; are_right(rt.alloc(), SQUARE, &IN_SQUARE));
+    assert!(rt; are_right(rt.alloc(), MIRRORED, &IN_MIRRORED));
+    assert!(rt; are_right(rt.alloc(), SLIVER, &IN_SLIVER));
+    assert!(rt; are_right(rt.alloc(), ANGLE, &IN_ANGLE));
+    assert!(rt; are_right(rt.alloc(), PLATE, &ROUND_HOLE));
+}
+
+// 128 rows of 128 squares with a side of 100.
+fn many_squares(alloc: Global) -> Option<Drawing> {
+    let mut drawing = Drawing::empty(alloc);
     for row in 0..128i64 {
         for column in 0..128i64 {
-            let (left, low) = (column.wrapping_mul(200), row.wrapping_mul(200));
-            let (right, high) = (left.wrapping_add(100), low.wrapping_add(100));
-            let corners = [(left, low), (right, low), (right, high), (left, high)];
-            add_loop(rt.alloc(), &mut drawing, &corners)?;
+            push_square(
+                &mut drawing,
+                column.wrapping_mul(200),
+                row.wrapping_mul(200),
+                100,
+            )?;
         }
     }
-    let listed = contacts(rt.alloc(), &drawing, 50).ok().ok_or("contacts")?;
-    assert_eq!(rt; listed.len(), 196_608);
-    let scene = Scene::new(rt.alloc(), drawing)?;
+    Some(drawing)
+}
+
+// How many discs are found at the contact, one in the middle of an edge and none at a corner; None where it isn't so.
+fn discs_found(scene: &Scene, c: &Contact) -> Option<u32> {
+    let disc = disc_at(scene, c.edge, c.k, c.n, 16)?;
+    let want = if c.k == 1 {
+        (Side::Left, 16)
+    } else {
+        (Side::Nowhere, 0)
+    };
+    if (disc.side, disc.j) == want {
+        Some(disc.j / 16)
+    } else {
+        None
+    }
+}
+
+// How many contacts the squares have, how many discs are found there, and the first contact where it isn't so.
+fn counts_of_squares(alloc: Global) -> Option<(usize, u32, Option<Contact>)> {
+    let drawing = many_squares(alloc)?;
+    let listed = contacts(alloc, &drawing, 50).ok()?;
+    let scene = Scene::new(alloc, drawing).ok()?;
     let mut found: u32 = 0;
     for c in &listed {
-        let disc = disc_at(&scene, c.edge, c.k, c.n, 16).ok_or("a contact")?;
-        let want = if c.k == 1 {
-            (Side::Left, 16)
-        } else {
-            (Side::Nowhere, 0)
+        let Some(count) = discs_found(&scene, c) else {
+            return Some((listed.len(), found, Some(*c)));
         };
-        assert_eq!(rt; (disc.side, disc.j), want, "{c:?}");
-        found = found.wrapping_add(disc.j / 16);
+        found = found.wrapping_add(count);
     }
-    assert_eq!(rt; found, 65_536);
-    Ok(())
+    Some((listed.len(), found, None))
+}
+
+// In the middle of each of the 65,536 edges a disc of the greatest number is free, and at the corners none is.
+#[test]
+fn discs_of_many_squares(rt: HostRuntime) {
+    let counts = counts_of_squares(rt.alloc());
+    assert_eq!(rt; counts, Some((196_608, 65_536, None)));
 }

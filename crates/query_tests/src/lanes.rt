@@ -45,11 +45,23 @@ fn all_lengths(rt: HostRuntime) -> Result<(), Fail> {
     Ok(())
 }
 
+// Nine words with eight ones each, of which the first ones, up to `count` of them, lost four.
+fn without_high_ones(count: usize) -> [u64; 9] {
+    let count = count.min(9);
+    let mut words = [0xff; 9];
+    and_not(&mut words[..count], &[0xf0; 9][..count]);
+    words
+}
+
+// The ones of the first words, up to `count` of them.
+fn ones_of_first(words: &[u64; 9], count: usize) -> u64 {
+    count_ones(&words[..count.min(9)])
+}
+
 #[test]
-fn all_counts_of_words(rt: HostRuntime) -> Result<(), Fail> {
+fn all_counts_of_words(rt: HostRuntime) {
     for count in 0..=9 {
-        let mut words = [0xff; 9];
-        and_not(&mut words[..count], &[0xf0; 9][..count]);
+        let words = without_high_ones(count);
         for k in 0..9 {
             assert_eq!(rt;
                 words[k],
@@ -58,7 +70,6 @@ fn all_counts_of_words(rt: HostRuntime) -> Result<(), Fail> {
             );
         }
         assert_eq!(rt; count_ones(&words), 72 - 4 * count as u64);
-        assert_eq!(rt; count_ones(&words[..count]), 4 * count as u64);
+        assert_eq!(rt; ones_of_first(&words, count), 4 * count as u64);
     }
-    Ok(())
 }

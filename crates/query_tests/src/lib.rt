@@ -14,4 +14,8 @@ mod lanes;
 #[cfg(test)]
 mod near;
 #[cfg(test)]
+mod random;
+#[cfg(test)]
 mod reports;
+#[cfg(test)]
+mod scenes;

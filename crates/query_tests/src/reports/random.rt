@@ -1,69 +1,67 @@
 // Reports on random drawings and programs, against a plain program of the definition that asks each point by itself.
-use super::{has_runs, spot};
+use super::has_runs;
+use crate::random::next;
+use crate::scenes::spot;
 use coverage_report::uncut;
 use depth_rule::Scene;
 use loops_text::Drawing;
 use plane_exact::{Bit, LineMove, Move, Point, Spot};
 use std::alloc::Global;
-use std::test::Fail;
 use swept_move::point_removed;
 
 // How far the drawings reach to each side of the origin, in grid units.
 const REACH: i32 = 12;
 
-// The next number from -reach to reach.
-fn next(state: &mut u64, reach: i32) -> i32 {
-    *state = state
-        .wrapping_mul(6_364_136_223_846_793_005)
-        .wrapping_add(1_442_695_040_888_963_407);
-    let count = reach.wrapping_mul(2).wrapping_add(1).max(1) as u64;
-    (((*state >> 33) % count) as i32).wrapping_sub(reach)
-}
-
 // A loop of three to five points, two of which may be the same.
-fn random_loop(alloc: Global, state: &mut u64) -> Result<Vec<Point>, Fail> {
+fn random_loop(alloc: Global, state: &mut u64) -> Option<Vec<Point>> {
     let mut points = Vec::new(alloc);
     for _ in 0..next(state, 1).wrapping_add(4) {
         let x = i64::from(next(state, REACH));
         let y = i64::from(next(state, REACH));
-        points.push(Point::new(x, y).ok_or("a point")?)?;
+        points.push(Point::new(x, y)?).ok()?;
     }
-    Ok(points)
+    Some(points)
 }
 
 // A drawing of up to three loops; a loop with two successive points that are the same is left out.
-fn random_scene(alloc: Global, state: &mut u64) -> Result<Scene, Fail> {
+fn random_scene(alloc: Global, state: &mut u64) -> Option<Scene> {
     let mut drawing = Drawing::empty(alloc);
     for _ in 0..next(state, 1).wrapping_add(2) {
         let points = random_loop(alloc, state)?;
         let _ = drawing.push_loop(&points);
     }
-    Ok(Scene::new(alloc, drawing)?)
+    Scene::new(alloc, drawing).ok()
+}
+
+// The next number from -reach to reach, times the scale; None where it is too great.
+fn scaled(state: &mut u64, reach: i32, scale: i32) -> Option<i16> {
+    i16::try_from(next(state, reach).wrapping_mul(scale)).ok()
 }
 
 // A spot in or about the drawing, above or below the surface or at it, often over a grid point and a whole number deep: so discs touch
 // rows and points, and moves meet the surface over them.
-fn random_spot(state: &mut u64) -> Result<Spot, Fail> {
-    let scale = if next(state, 1) == 0 { 1 } else { 10 };
-    let reach = if scale == 10 { 15 } else { 150 };
-    let x = next(state, reach).wrapping_mul(scale);
-    let y = next(state, reach).wrapping_mul(scale);
-    let h = next(state, reach / 3).wrapping_mul(scale);
-    spot(x, y, h)
+fn random_spot(state: &mut u64) -> Option<Spot> {
+    let (scale, reach) = if next(state, 1) == 0 {
+        (1, 150)
+    } else {
+        (10, 15)
+    };
+    let x = scaled(state, reach, scale)?;
+    let y = scaled(state, reach, scale)?;
+    let h = scaled(state, reach / 3, scale)?;
+    Some(spot(x, y, h))
 }
 
-fn random_moves(alloc: Global, state: &mut u64) -> Result<Vec<LineMove>, Fail> {
+fn random_moves(alloc: Global, state: &mut u64) -> Option<Vec<LineMove>> {
     let mut moves = Vec::new(alloc);
     let mut from = random_spot(state)?;
     for _ in 0..next(state, 2).wrapping_add(2) {
         let to = random_spot(state)?;
-        moves.push(LineMove {
-            line: 1,
-            mv: Move { from, to },
-        })?;
+        let mv = Move { from, to };
+        moves.push(LineMove { line: 1, mv }).ok()?;
         from = to;
     }
-    Ok(moves)
+    Some(moves)
 }
 
 fn is_left(moves: &[LineMove], bit: &Bit, p: Point) -> bool {
@@ -72,74 +70,77 @@ fn is_left(moves: &[LineMove], bit: &Bit, p: Point) -> bool {
         .any(|line_move| point_removed(&line_move.mv, bit, p))
 }
 
-// What is left, in runs, and how many points are inside.
-#[derive(Drop)]
-struct Counted {
-    runs: Vec<(i32, i32, i32)>,
-    drawing: u64,
-    left: u64,
-}
+// A row, and its first and last column.
+type Stretch = (i32, i32, i32);
 
-impl Counted {
-    // One point more that is left: it makes the last run longer, or begins one.
-    fn push(&mut self, x: i32, y: i32, pitch: i32) -> Result<(), Fail> {
-        self.left = self.left.wrapping_add(1);
-        match self.runs.last_mut() {
-            Some(run) if run.0 == y && run.2.wrapping_add(pitch) == x => run.2 = x,
-            _ => self.runs.push((y, x, x))?,
-        }
-        Ok(())
+// Makes the last run longer by the point, if it ends beside it.
+fn lengthen(runs: &mut [Stretch], x: i32, y: i32, pitch: i32) -> bool {
+    let Some(run) = runs.last_mut() else {
+        return false;
+    };
+    if (run.0, run.2) == (y, x.wrapping_sub(pitch)) {
+        run.2 = x;
+        true
+    } else {
+        false
     }
 }
 
-// The report of the definition, point by point.
+// One point more that is left: it makes the last run longer, or begins one.
+fn push_point(runs: &mut Vec<Stretch>, x: i32, y: i32, pitch: i32) -> Option<()> {
+    if lengthen(runs, x, y, pitch) {
+        Some(())
+    } else {
+        runs.push((y, x, x)).ok()
+    }
+}
+
+// The report of the definition, point by point: its runs, how many points are inside, and how many are left.
 fn point_by_point(
-    alloc: Global,
     scene: &Scene,
     bit: &Bit,
     moves: &[LineMove],
     pitch: i32,
-) -> Result<Counted, Fail> {
-    let mut found = Counted {
-        runs: Vec::new(alloc),
-        drawing: 0,
-        left: 0,
-    };
+    runs: &mut Vec<Stretch>,
+) -> Option<(u64, u64)> {
+    let (mut inside, mut left) = (0u64, 0u64);
     for y in -REACH..REACH.wrapping_add(1) {
         for x in -REACH..REACH.wrapping_add(1) {
-            let p = Point::new(i64::from(x), i64::from(y)).ok_or("a point")?;
+            let p = Point::new(i64::from(x), i64::from(y))?;
             let is_point = x.wrapping_rem(pitch.max(1)) == 0 && y.wrapping_rem(pitch.max(1)) == 0;
             if is_point && scene.is_inside(p) {
-                found.drawing = found.drawing.wrapping_add(1);
+                inside = inside.wrapping_add(1);
                 if is_left(moves, bit, p) {
-                    found.push(x, y, pitch)?;
+                    left = left.wrapping_add(1);
+                    push_point(runs, x, y, pitch)?;
                 }
             }
         }
     }
-    Ok(found)
+    Some((inside, left))
+}
+
+// Whether the next report, at this pitch, which is from 1 on, is that of its points.
+fn next_is_right(alloc: Global, state: &mut u64, pitch: u8) -> Option<bool> {
+    let scene = random_scene(alloc, state)?;
+    let moves = random_moves(alloc, state)?;
+    let slope = next(state, 2).wrapping_add(3).max(1) as u32;
+    let bit = Bit::new(slope, 2, 9)?;
+    let report = uncut(alloc, &scene, &bit, &moves, u32::from(pitch.max(1))).ok()?;
+    let mut runs = Vec::new(alloc);
+    let counts = point_by_point(&scene, &bit, &moves, i32::from(pitch), &mut runs)?;
+    Some(has_runs(&report, &runs) && (report.drawing, report.left) == counts)
 }
 
 #[test]
-fn five_hundred_reports_are_those_of_their_points_one_by_one(rt: HostRuntime) -> Result<(), Fail> {
-    let alloc = rt.alloc();
+fn five_hundred_reports_are_those_of_their_points_one_by_one(rt: HostRuntime) {
     let mut state = 1;
     for number in 0..500u32 {
-        let scene = random_scene(alloc, &mut state)?;
-        let moves = random_moves(alloc, &mut state)?;
-        let slope = next(&mut state, 2).wrapping_add(3).max(1) as u32;
-        let bit = Bit::new(slope, 2, 9).ok_or("a bit")?;
         let pitch = [1, 1, 1, 2, 3, 5, 12, 20][(number % 8) as usize];
-        let report = uncut(alloc, &scene, &bit, &moves, pitch)
-            .ok()
-            .ok_or("a report")?;
-        let want = point_by_point(alloc, &scene, &bit, &moves, pitch as i32)?;
-        assert!(rt; has_runs(&report, &want.runs), "the runs of case {number}");
         assert_eq!(rt;
-            (report.drawing, report.left),
-            (want.drawing, want.left),
+            next_is_right(rt.alloc(), &mut state, pitch),
+            Some(true),
             "case {number}"
         );
     }
-    Ok(())
 }
