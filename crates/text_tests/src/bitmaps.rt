@@ -1,5 +1,7 @@
 // Small bitmaps worked by hand, and the greatest ones.
-use pbm_edges::{Bitmap, FlatFault, MOST_PBM_BYTES, PbmFault, edges, read_pbm};
+ghost use Rattle.plane_exact.specs.Cone.{IsFromOneTo};
+
+use pbm_edges::{Bitmap, FlatFault, MOST_PBM_BYTES, MOST_PIXEL, PbmFault, edges, read_pbm};
 use plane_exact::Seg;
 use std::alloc::{AllocError, Global};
 use std::test::Fail;
@@ -60,10 +62,9 @@ const FILES: [(&[u8], &str); 33] = [
 
 #[test]
 fn reads_and_traces_small_files(rt: HostRuntime) -> Result<(), Fail> {
-    for (file, want) in FILES {
-        assert!(rt; file.len() < 100);
+    for (file, want) in FILES.iter() {
         let answer = described(rt.alloc(), file)?;
-        assert_eq!(rt; answer.as_str(), want, "at {file:?}");
+        assert!(rt; answer.as_str() == *want, "{answer} at {file:?}");
     }
     Ok(())
 }
@@ -98,27 +99,46 @@ fn tells_where_a_file_breaks_off(rt: HostRuntime) -> Result<(), Fail> {
 #[test]
 fn takes_131072_segments(rt: HostRuntime) -> Result<(), Fail> {
     let full = checkerboard(rt.alloc(), 256, 256)?;
-    assert!(rt; full.len() <= MOST_PBM_BYTES);
-    let map = read_pbm(rt.alloc(), &full).ok().expect(&rt, "a bitmap");
-    assert_eq!(rt; (map.width(), map.height()), (256, 256));
-    assert!(rt; map.width() > 1 && map.height() > 0);
-    assert_eq!(rt; (map.black(0, 0), map.black(1, 0)), (true, false));
     assert_eq!(rt;
-        edges(rt.alloc(), &map, 127).map(|segs| segs.len()),
-        Ok(131_072)
+        first_pixels(rt.alloc(), &full),
+        Some((256, 256, true, false))
     );
+    assert_eq!(rt; count(rt.alloc(), &full, 127), Some(Ok(131_072)));
     assert_eq!(rt;
-        edges(rt.alloc(), &map, 128).map(|segs| segs.len()),
-        Err(FlatFault::OutOfRange)
+        count(rt.alloc(), &full, 128),
+        Some(Err(FlatFault::OutOfRange))
     );
     let over = checkerboard(rt.alloc(), 257, 256)?;
-    assert!(rt; over.len() <= MOST_PBM_BYTES);
-    let map = read_pbm(rt.alloc(), &over).ok().expect(&rt, "a bitmap");
-    assert_eq!(rt;
-        edges(rt.alloc(), &map, 1).map(|segs| segs.len()),
-        Err(FlatFault::TooMany)
-    );
+    assert_eq!(rt; count(rt.alloc(), &over, 1), Some(Err(FlatFault::TooMany)));
     Ok(())
+}
+
+// The bitmap. None where the file is none, or too long.
+fn bitmap(alloc: Global, file: &[u8]) -> Option<Bitmap> {
+    if file.len() > MOST_PBM_BYTES {
+        return None;
+    }
+    read_pbm(alloc, file).ok()
+}
+
+// The width and the height, and whether the pixels at the upper left and beside it are black.
+fn first_pixels(alloc: Global, file: &[u8]) -> Option<(u32, u32, bool, bool)> {
+    let map = bitmap(alloc, file)?;
+    if map.width() < 2 {
+        return None;
+    }
+    Some((map.width(), map.height(), map.black(0, 0), map.black(1, 0)))
+}
+
+// How many segments the file has, at pixels of so many grid units.
+fn count(alloc: Global, file: &[u8], pixel: u32) -> Option<Result<usize, FlatFault>>
+    requires { IsFromOneTo MOST_PIXEL pixel }
+{
+    let map = bitmap(alloc, file)?;
+    match edges(alloc, &map, pixel) {
+        Ok(segs) => Some(Ok(segs.len())),
+        Err(fault) => Some(Err(fault)),
+    }
 }
 
 // A white file of the greatest sides but for its last pixel.
@@ -130,8 +150,7 @@ fn takes_8191_by_8191_pixels(rt: HostRuntime) -> Result<(), Fail> {
         file.push(0)?;
     }
     file.push(2)?;
-    assert!(rt; file.len() <= MOST_PBM_BYTES);
-    let map = read_pbm(rt.alloc(), &file).ok().expect(&rt, "a bitmap");
+    let map = bitmap(rt.alloc(), &file).expect(&rt, "a bitmap");
     let segs = edges(rt.alloc(), &map, 4).ok().expect(&rt, "segments");
     assert_eq!(rt;
         listed(rt.alloc(), &segs)?.as_str(),

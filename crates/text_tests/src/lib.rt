@@ -20,6 +20,8 @@ mod numbers;
 #[cfg(test)]
 mod outlines;
 #[cfg(test)]
+mod points;
+#[cfg(test)]
 mod ports;
 #[cfg(test)]
 mod words;

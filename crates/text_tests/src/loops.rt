@@ -1,7 +1,11 @@
 // Files in loops form with what docs/COMMANDS.md says of them, and each call of a drawing once.
+ghost use Rattle.std.specs.Prelude.{◌≢◌, IfSome};
+
+use crate::points::point;
 use loops_text::{Drawing, LoopsFault, LoopsKind, PushFault, crosses, read_loops, write_loops};
 use plane_exact::{Point, Seg};
 use std::alloc::{AllocError, Global};
+use std::process::Abort;
 use std::test::Fail;
 
 // Each text with its loops, a line each, or with the place and the kind of its first fault.
@@ -48,11 +52,17 @@ const TEXTS: [(&[u8], &str); 38] = [
 
 #[test]
 fn reads_and_writes_as_the_manual_says(rt: HostRuntime) -> Result<(), Fail> {
-    for (text, want) in TEXTS {
-        assert!(rt; text.len() < 100);
-        let answer = described(rt.alloc(), read_loops(rt.alloc(), text))?;
-        assert_eq!(rt; answer.as_slice(), want.as_bytes(), "at {text:?}");
+    for (text, want) in TEXTS.iter() {
+        expect(&rt, rt.alloc(), text, want)?;
     }
+    Ok(())
+}
+
+// What is written of the text, or its fault, is the wanted one.
+fn expect(rt: &impl Abort, alloc: Global, text: &[u8], want: &str) -> Result<(), AllocError> {
+    assert!(rt; text.len() < 100);
+    let answer = described(alloc, read_loops(alloc, text))?;
+    assert_eq!(rt; answer.as_slice(), want.as_bytes(), "at {text:?}");
     Ok(())
 }
 
@@ -64,11 +74,10 @@ fn described(alloc: Global, answer: Result<Drawing, LoopsFault>) -> Result<Vec<u
     }
 }
 
-// Cut off at any byte, a text is what stands there, or its last point or its loop isn't whole.
-#[test]
-fn tells_what_stands_before_a_cut(rt: HostRuntime) -> Result<(), Fail> {
-    let text = b"0,0 9,0 0,9\n";
-    let wants = [
+// What a text is up to each of its bytes.
+const CUT_OFF: (&[u8], [&str; 13]) = (
+    b"0,0 9,0 0,9\n",
+    [
         "",
         "0 Syntax",
         "0 Syntax",
@@ -82,11 +91,16 @@ fn tells_what_stands_before_a_cut(rt: HostRuntime) -> Result<(), Fail> {
         "8 Syntax",
         "0,0 9,0 0,9\n",
         "0,0 9,0 0,9\n",
-    ];
+    ],
+);
+
+// Cut off at any byte, a text is what stands there, or its last point or its loop isn't whole.
+#[test]
+fn tells_what_stands_before_a_cut(rt: HostRuntime) -> Result<(), Fail> {
+    let (text, wants) = CUT_OFF;
     for (cut, want) in wants.iter().enumerate() {
         assert!(rt; cut <= text.len());
-        let answer = described(rt.alloc(), read_loops(rt.alloc(), &text[..cut]))?;
-        assert_eq!(rt; answer.as_slice(), want.as_bytes(), "cut at {cut}");
+        expect(&rt, rt.alloc(), &text[..cut], want)?;
     }
     Ok(())
 }
@@ -122,42 +136,57 @@ fn edges(answer: Result<Drawing, LoopsFault>) -> u32 {
 }
 
 #[test]
-fn keeps_loops_and_edges(rt: HostRuntime) -> Result<(), Fail> {
-    let a = Point::new(0, 0).ok_or("a")?;
-    let b = Point::new(7, 0).ok_or("b")?;
-    let c = Point::new(0, 9).ok_or("c")?;
+fn keeps_loops_and_edges(rt: HostRuntime) {
+    let (a, b, c) = (point(0, 0), point(7, 0), point(0, 9));
     let mut drawing = Drawing::empty(rt.alloc());
     assert_eq!(rt; drawing.push_loop(&[a, b]), Ok(()));
     assert_eq!(rt; drawing.push_loop(&[c, a, b]), Ok(()));
     assert_eq!(rt; drawing.push_loop(&[a]), Err(PushFault::Short));
     assert_eq!(rt; drawing.push_loop(&[a, b, a]), Err(PushFault::SamePoint));
+    expect_loops(&rt, &drawing, a, b, c);
+    expect_edges(&rt, &drawing, a, b, c);
+}
+
+// The loops are from a to b and from c by way of a to b.
+fn expect_loops(rt: &impl Abort, drawing: &Drawing, a: Point, b: Point, c: Point) {
     assert_eq!(rt; drawing.loops(), 2);
     assert_eq!(rt; drawing.points(1), [c, a, b].as_slice());
+}
+
+fn expect_edges(rt: &impl Abort, drawing: &Drawing, a: Point, b: Point, c: Point) {
     assert_eq!(rt; drawing.edges(), 5);
     assert_eq!(rt; drawing.edge(1), Seg { a: b, b: a });
-    assert_eq!(rt; drawing.loop_of(1), 0);
-    assert_eq!(rt; drawing.loop_of(2), 1);
+    assert_eq!(rt; (drawing.loop_of(1), drawing.loop_of(2)), (0, 1));
     assert_eq!(rt; drawing.all_edges().last(), Some(&Seg { a: b, b: c }));
-    Ok(())
 }
+
+// The ends of a segment with whether it crosses the one from 0,0 to 4,0: across, on from its middle, along a part of it, on from its
+// end, and beside it.
+const CROSSING: [([i64; 4], bool); 5] = [
+    ([1, 1, 3, -1], true),
+    ([2, 0, 2, 5], true),
+    ([1, 0, 9, 0], true),
+    ([4, 0, 4, 5], false),
+    ([0, 1, 4, 1], false),
+];
 
 #[test]
 fn tells_which_segments_cross(rt: HostRuntime) -> Result<(), Fail> {
-    let from = Point::new(0, 0).ok_or("from")?;
-    let to = Point::new(4, 0).ok_or("to")?;
-    let s = Seg { a: from, b: to };
-    // From the first point to the second: across, on from its middle, along a part of it, on from its end, and beside it.
-    for (x, y, to_x, to_y, want) in [
-        (1, 1, 3, -1, true),
-        (2, 0, 2, 5, true),
-        (1, 0, 9, 0, true),
-        (4, 0, 4, 5, false),
-        (0, 1, 4, 1, false),
-    ] {
-        let a = Point::new(x, y).ok_or("a")?;
-        let b = Point::new(to_x, to_y).ok_or("b")?;
-        assert!(rt; from != to && a != b);
-        assert_eq!(rt; crosses(&s, &Seg { a, b }), want, "to {b:?}");
+    let first = segment(0, 0, 4, 0).expect(&rt, "a segment");
+    for ([x, y, to_x, to_y], want) in CROSSING.iter() {
+        let next = segment(*x, *y, *to_x, *to_y).expect(&rt, "a segment");
+        assert_eq!(rt; crosses(&first, &next), *want, "from {x},{y}");
     }
     Ok(())
+}
+
+fn segment(x: i64, y: i64, to_x: i64, to_y: i64) -> Option<Seg>
+    ensures { IfSome result (λ s. s.a ≢ s.b) }
+{
+    let a = Point::new(x, y)?;
+    let b = Point::new(to_x, to_y)?;
+    if a == b {
+        return None;
+    }
+    Some(Seg { a, b })
 }

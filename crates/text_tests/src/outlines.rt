@@ -1,7 +1,11 @@
 // Files with what the rules make of them, and each kind of fault with its pair.
-use dxf_outline::{DxfFault, DxfKind, Outline, read_dxf};
+ghost use Rattle.plane_exact.specs.Cone.{IsFromOneTo};
+
+use arc_flatten::MOST_CHORD;
+use dxf_outline::{DxfFault, DxfKind, MOST_DXF_BYTES, Outline, read_dxf};
 use grid_num::Units;
 use std::alloc::{AllocError, Global};
+use std::process::Abort;
 use std::test::Fail;
 
 const CIRCLE: &str = "0 SECTION 2 ENTITIES 0 CIRCLE 8 0 10 0.0 20 0.0 40 1.0 0 ENDSEC 0 EOF";
@@ -102,13 +106,24 @@ const ENTITIES: [(&str, &str); 41] = [
 
 #[test]
 fn reads_each_entity(rt: HostRuntime) -> Result<(), Fail> {
-    for (entities, want) in ENTITIES {
+    for (entities, want) in ENTITIES.iter() {
         let words = format!(in rt.alloc(); "{BEGIN}{entities}{END}")?;
-        let file = file_of(rt.alloc(), words.as_bytes(), b"\n")?;
-        assert!(rt; file.len() < 1000);
-        let answer = described(rt.alloc(), read_dxf(rt.alloc(), &file, Units::Mm100, 90))?;
-        assert_eq!(rt; answer.as_str(), want, "at {entities}");
+        expect(&rt, rt.alloc(), words.as_str(), b"\n", want)?;
     }
+    Ok(())
+}
+
+// The outline of the words, or the fault, is the wanted one.
+fn expect(
+    rt: &impl Abort,
+    alloc: Global,
+    words: &str,
+    line_end: &[u8],
+    want: &str,
+) -> Result<(), AllocError> {
+    let file = file_of(alloc, words.as_bytes(), line_end)?;
+    let answer = described(alloc, &file, 90)?;
+    assert_eq!(rt; answer.as_str(), want, "at {words}");
     Ok(())
 }
 
@@ -126,16 +141,11 @@ const FILES: [(&str, &str); 8] = [
 
 #[test]
 fn reads_whole_files(rt: HostRuntime) -> Result<(), Fail> {
-    for (words, want) in FILES {
-        let file = file_of(rt.alloc(), words.as_bytes(), b" \r\n\t")?;
-        assert!(rt; file.len() < 1000);
-        let answer = described(rt.alloc(), read_dxf(rt.alloc(), &file, Units::Mm100, 90))?;
-        assert_eq!(rt; answer.as_str(), want, "at {words}");
+    for (words, want) in FILES.iter() {
+        expect(&rt, rt.alloc(), words, b" \r\n\t", want)?;
     }
-    let answer = described(rt.alloc(), read_dxf(rt.alloc(), b"", Units::Mm100, 90))?;
-    assert_eq!(rt; answer.as_str(), "1 Unended");
-    let answer = described(rt.alloc(), read_dxf(rt.alloc(), b"\n", Units::Mm100, 90))?;
-    assert_eq!(rt; answer.as_str(), "1 BadCode");
+    assert_eq!(rt; described(rt.alloc(), b"", 90)?.as_str(), "1 Unended");
+    assert_eq!(rt; described(rt.alloc(), b"\n", 90)?.as_str(), "1 BadCode");
     Ok(())
 }
 
@@ -143,28 +153,38 @@ fn reads_whole_files(rt: HostRuntime) -> Result<(), Fail> {
 #[test]
 fn tells_where_a_file_breaks_off(rt: HostRuntime) -> Result<(), Fail> {
     let file = file_of(rt.alloc(), CIRCLE.as_bytes(), b"\n")?;
-    let mut lines = 0u32;
-    for (cut, byte) in file.iter().enumerate() {
-        assert!(rt; cut < 70 && lines < 70);
-        let is_begun = cut > 0 && file.get(cut - 1) != Some(&b'\n');
-        let whole = if is_begun { lines + 1 } else { lines };
-        let fault = DxfFault {
-            pair: whole / 2 + 1,
-            kind: DxfKind::Unended,
-        };
+    assert!(rt; file.len() <= 70);
+    for cut in 0..file.len() {
         let answer = read_dxf(rt.alloc(), &file[..cut], Units::Mm100, 45);
-        assert_eq!(rt; answer.err(), Some(fault).filter(|_| cut < 69), "at {cut}");
-        if *byte == b'\n' {
-            lines += 1;
-        }
+        let want = if cut < 69 {
+            Some(unended(&file[..cut]))
+        } else {
+            None
+        };
+        assert_eq!(rt; answer.err(), want, "at {cut}");
     }
-    assert!(rt; file.len() < 100);
-    let answer = described(rt.alloc(), read_dxf(rt.alloc(), &file, Units::Mm100, 45))?;
+    let answer = described(rt.alloc(), &file, 45)?;
     assert_eq!(rt;
         answer.as_str(),
         "0: 100,0 71,71; 71,71 0,100; 0,100 -71,71; -71,71 -100,0; -100,0 -71,-71; -71,-71 0,-100; 0,-100 71,-71; 71,-71 100,0;"
     );
     Ok(())
+}
+
+// What is wrong with a file that breaks off behind this piece: two lines are a pair, and a line that is begun counts.
+fn unended(piece: &[u8]) -> DxfFault {
+    let mut lines = 0u32;
+    let mut before = b'\n';
+    for byte in piece {
+        if before == b'\n' {
+            lines = lines.saturating_add(1);
+        }
+        before = *byte;
+    }
+    DxfFault {
+        pair: lines / 2 + 1,
+        kind: DxfKind::Unended,
+    }
 }
 
 #[test]
@@ -239,9 +259,14 @@ fn file_of(alloc: Global, words: &[u8], line_end: &[u8]) -> Result<Vec<u8>, Allo
     Ok(file)
 }
 
-// How many are skipped and the segments of an outline, or the fault.
-fn described(alloc: Global, answer: Result<Outline, DxfFault>) -> Result<String, AllocError> {
-    match answer {
+// How many are skipped and the segments of the outline of a file, or the fault.
+fn described(alloc: Global, file: &[u8], chord: u32) -> Result<String, AllocError>
+    requires { IsFromOneTo MOST_CHORD chord }
+{
+    if file.len() > MOST_DXF_BYTES {
+        return String::from_str(alloc, "too long");
+    }
+    match read_dxf(alloc, file, Units::Mm100, chord) {
         Ok(outline) => listed(alloc, &outline),
         Err(DxfFault { pair, kind }) => format!(in alloc; "{pair} {kind:?}"),
     }

@@ -19,12 +19,10 @@ const CASES: [(&[u8], Option<(u32, u32)>); 4] = [
 
 #[test]
 fn guards_as_worked_by_hand(rt: HostRuntime) -> Result<(), Fail> {
-    for (text, want) in CASES {
+    for (text, want) in CASES.iter() {
         assert!(rt; text.len() < 100);
-        match read_loops(rt.alloc(), text) {
-            Ok(drawing) => assert_eq!(rt; guard(&drawing), want, "at {text:?}"),
-            Err(fault) => assert!(rt; false, "{fault:?}"),
-        }
+        let drawing = read_loops(rt.alloc(), text).ok().expect(&rt, "a drawing");
+        assert_eq!(rt; guard(&drawing), *want, "at {text:?}");
     }
     Ok(())
 }

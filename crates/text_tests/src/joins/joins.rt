@@ -47,14 +47,14 @@ const SEGMENTS: [(&str, &str); 9] = [
 #[test]
 fn joins_as_the_rule_says(rt: HostRuntime) -> Result<(), Fail> {
     join_law();
-    for (segments, want) in SEGMENTS {
+    for (segments, want) in SEGMENTS.iter() {
         assert!(rt; segments.len() < 200);
         let given = read_loops(rt.alloc(), segments.as_bytes())
             .ok()
-            .ok_or("segments")?;
+            .expect(&rt, "segments");
         let sides = sides_of(rt.alloc(), &given)?;
         let answer = described(rt.alloc(), joined(rt.alloc(), &sides))?;
-        assert_eq!(rt; answer.as_str(), want, "at {segments:?}");
+        assert_eq!(rt; answer.as_str(), *want, "at {segments:?}");
     }
     Ok(())
 }
@@ -66,8 +66,8 @@ fn joins_131072_segments(rt: HostRuntime) -> Result<(), Fail> {
         segs: Vec::new(rt.alloc()),
     };
     for n in 0..131_072 {
-        let a = corner(n % 32_768, n / 32_768).ok_or("a")?;
-        let b = corner(n % 32_768, n / 32_768 + 1).ok_or("b")?;
+        let a = corner(n % 32_768, n / 32_768).expect(&rt, "a");
+        let b = corner(n % 32_768, n / 32_768 + 1).expect(&rt, "b");
         sides.push(a, b)?;
     }
     let loops = joined(rt.alloc(), &sides).map(|drawing| drawing.loops());

@@ -60,9 +60,9 @@ const CASES: [(u32, &[Numbers], &[Numbers]); 8] = [
 
 #[test]
 fn snaps_as_worked_by_hand(rt: HostRuntime) -> Result<(), Fail> {
-    for (tolerance, given, want) in CASES {
+    for (tolerance, given, want) in CASES.iter() {
         let segs = segs_of(rt.alloc(), given)?;
-        let moved = snap(rt.alloc(), &segs, tolerance)?;
+        let moved = snap(rt.alloc(), &segs, *tolerance)?;
         let want = segs_of(rt.alloc(), want)?;
         assert_eq!(rt;
             moved.as_slice(),
@@ -89,8 +89,8 @@ fn snaps_131072_segments_at_once(rt: HostRuntime) -> Result<(), Fail> {
     // Most of the ends are far from all others.
     let mut seed = 1u32;
     for _ in 0..131_072 {
-        let a = next_point(&mut seed).ok_or("a")?;
-        let b = next_point(&mut seed).ok_or("b")?;
+        let a = next_point(&mut seed).expect(&rt, "a");
+        let b = next_point(&mut seed).expect(&rt, "b");
         segs.push(Seg { a, b })?;
     }
     let moved = snap(rt.alloc(), &segs, 3)?;

@@ -1,6 +1,7 @@
 // Fonts in CXF form, with what the form says of them.
 use cxf_font::{CxfFault, Element, Font, read_font};
 use std::alloc::{AllocError, Global};
+use std::process::Abort;
 use std::test::Fail;
 
 // Texts with the elements of a character, or their first fault.
@@ -105,30 +106,42 @@ const FAULTS: [(&str, &str); 22] = [
 
 #[test]
 fn reads_what_the_form_says(rt: HostRuntime) -> Result<(), Fail> {
-    for (text, character, want) in GLYPHS.iter().chain(&KEYS) {
-        assert!(rt; text.len() < 100);
-        let answer = described(rt.alloc(), read_font(rt.alloc(), text), *character)?;
-        assert_eq!(rt; answer.as_str(), *want, "at {text:?}");
+    for (text, character, want) in GLYPHS.iter() {
+        expect(&rt, rt.alloc(), text, *character, want)?;
+    }
+    for (text, character, want) in KEYS.iter() {
+        expect(&rt, rt.alloc(), text, *character, want)?;
     }
     Ok(())
 }
 
 #[test]
 fn tells_the_first_faulty_line(rt: HostRuntime) -> Result<(), Fail> {
-    for (line, want) in FAULTS {
+    for (line, want) in FAULTS.iter() {
         let text = format!(in rt.alloc(); "# x\n[a]\n{line}\n[\nL 1\n")?;
-        assert!(rt; text.len() < 100);
-        let answer = described(rt.alloc(), read_font(rt.alloc(), text.as_bytes()), 'a')?;
-        assert_eq!(rt; answer.as_str(), want, "at {line}");
+        expect(&rt, rt.alloc(), text.as_bytes(), 'a', want)?;
     }
     Ok(())
 }
 
-// Cut off at any byte, a font is what stands there, or its last line isn't whole.
-#[test]
-fn tells_what_stands_before_a_cut(rt: HostRuntime) -> Result<(), Fail> {
-    let text = b"[a]\nL 1,2,3,4\n";
-    let wants = [
+// The elements of the character in the font, or the fault, are the wanted ones.
+fn expect(
+    rt: &impl Abort,
+    alloc: Global,
+    text: &[u8],
+    character: char,
+    want: &str,
+) -> Result<(), AllocError> {
+    assert!(rt; text.len() < 200);
+    let answer = described(alloc, read_font(alloc, text), character)?;
+    assert_eq!(rt; answer.as_str(), want, "at {text:?}");
+    Ok(())
+}
+
+// What a font is up to each of its bytes.
+const CUT_OFF: (&[u8], [&str; 15]) = (
+    b"[a]\nL 1,2,3,4\n",
+    [
         "none",
         "1 Syntax",
         "1 Syntax",
@@ -144,11 +157,16 @@ fn tells_what_stands_before_a_cut(rt: HostRuntime) -> Result<(), Fail> {
         "2 Number",
         "1000000,2000000 3000000,4000000;",
         "1000000,2000000 3000000,4000000;",
-    ];
+    ],
+);
+
+// Cut off at any byte, a font is what stands there, or its last line isn't whole.
+#[test]
+fn tells_what_stands_before_a_cut(rt: HostRuntime) -> Result<(), Fail> {
+    let (text, wants) = CUT_OFF;
     for (cut, want) in wants.iter().enumerate() {
         assert!(rt; cut <= text.len());
-        let answer = described(rt.alloc(), read_font(rt.alloc(), &text[..cut]), 'a')?;
-        assert_eq!(rt; answer.as_str(), *want, "cut at {cut}");
+        expect(&rt, rt.alloc(), &text[..cut], 'a', want)?;
     }
     Ok(())
 }
@@ -168,16 +186,11 @@ A 4.5,4.5,2.5,0,360
 
 #[test]
 fn reads_a_small_font(rt: HostRuntime) -> Result<(), Fail> {
-    let answer = described(rt.alloc(), read_font(rt.alloc(), SMALL), 'I')?;
-    assert_eq!(rt;
-        answer.as_str(),
-        "0,0 2000000,0; 2000000,0 2000000,9000000; 2000000,9000000 0,9000000; 0,9000000 0,0;"
-    );
-    let answer = described(rt.alloc(), read_font(rt.alloc(), SMALL), 'O')?;
-    assert_eq!(rt;
-        answer.as_str(),
-        "4500000,4500000 4500000 0..360000000; 4500000,4500000 2500000 0..360000000;"
-    );
+    let straight =
+        "0,0 2000000,0; 2000000,0 2000000,9000000; 2000000,9000000 0,9000000; 0,9000000 0,0;";
+    let round = "4500000,4500000 4500000 0..360000000; 4500000,4500000 2500000 0..360000000;";
+    expect(&rt, rt.alloc(), SMALL, 'I', straight)?;
+    expect(&rt, rt.alloc(), SMALL, 'O', round)?;
     Ok(())
 }
 
@@ -200,21 +213,26 @@ fn listed(alloc: Global, elements: &[Element]) -> Result<String, AllocError> {
     let mut text = String::new(alloc);
     let mut before = "";
     for element in elements {
-        match element {
-            Element::Line { x1, y1, x2, y2 } => write!(text, "{before}{x1},{y1} {x2},{y2};")?,
-            Element::Arc {
-                cx,
-                cy,
-                r,
-                a1,
-                a2,
-                clockwise,
-            } => {
-                let way = if *clockwise { " clockwise" } else { "" };
-                write!(text, "{before}{cx},{cy} {r} {a1}..{a2}{way};")?;
-            }
-        }
+        text.push_str(before)?;
+        write_element(&mut text, element)?;
         before = " ";
     }
     Ok(text)
+}
+
+fn write_element(text: &mut String, element: &Element) -> Result<(), AllocError> {
+    match element {
+        Element::Line { x1, y1, x2, y2 } => write!(text, "{x1},{y1} {x2},{y2};"),
+        Element::Arc {
+            cx,
+            cy,
+            r,
+            a1,
+            a2,
+            clockwise,
+        } => {
+            let way = if *clockwise { " clockwise" } else { "" };
+            write!(text, "{cx},{cy} {r} {a1}..{a2}{way};")
+        }
+    }
 }

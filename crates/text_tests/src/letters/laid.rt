@@ -1,10 +1,15 @@
 // Texts laid out in small fonts. The expected segments were worked out by hand.
 ghost use Rattle.std.specs.Prelude.{◌≡◌, chars, length};
+ghost use Rattle.plane_exact.specs.Cone.{IsFromOneTo};
+ghost use Rattle.cxf_font.specs.Layouts.{IsLayout};
 
-use cxf_font::{Justify, LayFault, Layout, MOST_FONT_BYTES, MOST_LETTERING, lay, read_font};
+use arc_flatten::MOST_CHORD;
+use cxf_font::{
+    Font, Justify, LEAST_PERCENT, LayFault, Layout, MOST_CHARACTERS, MOST_FONT_BYTES, MOST_HEIGHT,
+    MOST_LETTERING, MOST_PERCENT, lay, read_font,
+};
 use plane_exact::Seg;
 use std::alloc::{AllocError, Global};
-use std::process::Abort;
 use std::test::Fail;
 
 // A straight letter; quarters of a circle, one of them clockwise; three quarters, clockwise; a letter with no element; and one left of
@@ -116,62 +121,97 @@ const TEXTS: [(&str, Layout, &str); 18] = [
 
 #[test]
 fn stands_where_the_layout_says(rt: HostRuntime) -> Result<(), Fail> {
-    for (text, layout, want) in TEXTS {
-        let answer = laid(&rt, rt.alloc(), FONT, text, &layout, 90)?;
-        let answer = described(rt.alloc(), answer)?;
-        assert_eq!(rt; answer.as_str(), want, "of {text:?}");
+    let font = font_of(rt.alloc(), FONT).expect(&rt, "a font");
+    for (text, layout, want) in TEXTS.iter() {
+        let answer = described(rt.alloc(), laid(rt.alloc(), &font, text, layout, 90))?;
+        assert!(rt; answer.as_str() == *want, "{answer} of {text:?}");
     }
     Ok(())
 }
+
+const LOW: Layout = Layout {
+    height: 254,
+    charspace: 0,
+    ..PLAIN
+};
+
+const HIGHER: Layout = Layout { height: 255, ..LOW };
 
 #[test]
 fn counts_segments_but_looks_at_every_point(rt: HostRuntime) -> Result<(), Fail> {
     // Letters of 1024 segments each, of which 128 have as many as a text may have.
-    let mut font = String::from_str(rt.alloc(), "[O]\n")?;
-    for _ in 0..1024 {
-        font.push_str("L 0,0,9,9\n")?;
-    }
+    let font = font_of(rt.alloc(), &dense_font(rt.alloc())?).expect(&rt, "a font");
     let mut text = String::new(rt.alloc());
     for _ in 0..128 {
         text.push_str("O")?;
     }
-    let layout = Layout {
-        height: 255,
-        charspace: 0,
-        ..PLAIN
-    };
-    let most = laid(&rt, rt.alloc(), font.as_bytes(), text.as_str(), &layout, 1)?;
-    assert_eq!(rt; most.map_or(0, |segs| segs.len()), MOST_LETTERING);
+    assert_eq!(rt;
+        count(laid(rt.alloc(), &font, text.as_str(), &HIGHER, 1)),
+        MOST_LETTERING
+    );
     text.push_str("O")?;
-    let far = laid(&rt, rt.alloc(), font.as_bytes(), text.as_str(), &layout, 1)?;
-    assert_eq!(rt; described(rt.alloc(), far)?.as_str(), "out of range");
-    let near = Layout {
-        height: 254,
-        ..layout
-    };
-    let over = laid(&rt, rt.alloc(), font.as_bytes(), text.as_str(), &near, 1)?;
-    assert_eq!(rt; described(rt.alloc(), over)?.as_str(), "too many");
+    let far = described(
+        rt.alloc(),
+        laid(rt.alloc(), &font, text.as_str(), &HIGHER, 1),
+    )?;
+    assert_eq!(rt; far.as_str(), "out of range");
+    let over = described(rt.alloc(), laid(rt.alloc(), &font, text.as_str(), &LOW, 1))?;
+    assert_eq!(rt; over.as_str(), "too many");
     Ok(())
 }
 
-// The text in the font.
+// A font with one letter of 1024 segments.
+fn dense_font(alloc: Global) -> Result<Vec<u8>, AllocError> {
+    let mut file = Vec::new(alloc);
+    file.extend_from_slice(b"[O]\n")?;
+    for _ in 0..1024 {
+        file.extend_from_slice(b"L 0,0,9,9\n")?;
+    }
+    Ok(file)
+}
+
+fn count(answer: Result<Vec<Seg>, LayFault>) -> usize {
+    match answer {
+        Ok(segs) => segs.len(),
+        Err(_) => 0,
+    }
+}
+
+fn font_of(alloc: Global, bytes: &[u8]) -> Option<Font> {
+    if bytes.len() > MOST_FONT_BYTES {
+        return None;
+    }
+    read_font(alloc, bytes).ok()
+}
+
+// The text in the font. `Memory` stands for a text that is longer than what is taken, too.
 fn laid(
-    rt: &impl Abort,
     alloc: Global,
-    font: &[u8],
+    font: &Font,
     text: &str,
     layout: &Layout,
     chord: u32,
-) -> Result<Result<Vec<Seg>, LayFault>, Fail> {
-    assert!(rt; font.len() <= MOST_FONT_BYTES);
-    let font = read_font(alloc, font)?;
-    assert!(rt; count_characters(text) <= 200);
-    assert!(rt; 1 <= layout.height && layout.height <= 32_767);
-    assert!(rt; 10 <= layout.width && layout.width <= 500);
-    assert!(rt; layout.charspace <= 500 && layout.wordspace <= 500);
-    assert!(rt; 10 <= layout.linespace && layout.linespace <= 500);
-    assert!(rt; 1 <= chord && chord <= 90);
-    Ok(lay(alloc, &font, text, layout, chord))
+) -> Result<Vec<Seg>, LayFault>
+    requires { IsFromOneTo MOST_CHORD chord }
+{
+    if count_characters(text) > MOST_CHARACTERS {
+        return Err(LayFault::Memory);
+    }
+    lay(alloc, font, text, &within(layout), chord)
+}
+
+// The layout itself, since no number here is out of its range.
+fn within(layout: &Layout) -> Layout
+    ensures { IsLayout result }
+{
+    Layout {
+        height: layout.height.clamp(1, MOST_HEIGHT),
+        width: layout.width.clamp(LEAST_PERCENT, MOST_PERCENT),
+        charspace: layout.charspace.min(MOST_PERCENT),
+        wordspace: layout.wordspace.min(MOST_PERCENT),
+        linespace: layout.linespace.clamp(LEAST_PERCENT, MOST_PERCENT),
+        ..*layout
+    }
 }
 
 fn count_characters(text: &str) -> usize
@@ -182,17 +222,19 @@ fn count_characters(text: &str) -> usize
 
 // The segments, or the words of the fault and the place.
 fn described(alloc: Global, answer: Result<Vec<Seg>, LayFault>) -> Result<String, AllocError> {
-    let segs = match answer {
-        Ok(segs) => segs,
+    match answer {
+        Ok(segs) => listed(alloc, &segs),
         Err(LayFault::NoGlyph(place)) => {
-            return format!(in alloc; "{} {place}", LayFault::NoGlyph(place).words());
+            format!(in alloc; "{} {place}", LayFault::NoGlyph(place).words())
         }
-        Err(fault) => return String::from_str(alloc, fault.words()),
-    };
+        Err(fault) => String::from_str(alloc, fault.words()),
+    }
+}
+
+fn listed(alloc: Global, segs: &[Seg]) -> Result<String, AllocError> {
     let mut text = String::new(alloc);
     let mut before = "";
-    for seg in &segs {
-        let (a, b) = (seg.a, seg.b);
+    for Seg { a, b } in segs {
         write!(text, "{before}{},{} {},{};", a.x(), a.y(), b.x(), b.y())?;
         before = " ";
     }
