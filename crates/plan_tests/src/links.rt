@@ -11,54 +11,43 @@ const LIMIT: u32 = 200;
 // A point and a depth.
 type Place = (i64, i64, u32);
 
-fn node(place: Place) -> Result<Node, Fail> {
+fn node(place: Place) -> Option<Node> {
     let (x, y, depth) = place;
-    let at = Point::new(x, y).ok_or("a point")?;
-    if depth <= LIMIT {
-        Ok(Node { at, depth })
-    } else {
-        Err(Fail::from("a depth"))
+    if depth > LIMIT {
+        return None;
     }
+    let at = Point::new(x, y)?;
+    Some(Node { at, depth })
 }
 
 // The steps as text: `to X Y DEPTH; ` or `lift X Y DEPTH; ` a step.
 fn text_of(alloc: Global, steps: &[Step]) -> Result<String, AllocError> {
     let mut text = String::new(alloc);
     for step in steps {
-        text.push_str(text_of_step(alloc, step)?.as_str())?;
+        let (word, node) = match step {
+            Step::To(node) => ("to", node),
+            Step::Lift(node) => ("lift", node),
+        };
+        let (x, y, depth) = (node.at.x(), node.at.y(), node.depth);
+        write!(text, "{word} {x} {y} {depth}; ")?;
     }
     Ok(text)
 }
 
-fn text_of_step(alloc: Global, step: &Step) -> Result<String, AllocError> {
-    let (word, node) = match step {
-        Step::To(node) => ("to", node),
-        Step::Lift(node) => ("lift", node),
-    };
-    let (x, y, depth) = (node.at.x(), node.at.y(), node.depth);
-    format!(in alloc; "{word} {x} {y} {depth}; ")
-}
-
 // The link of the bit whose depth is its radius.
-fn linked(
-    alloc: Global,
-    scene: &Scene,
-    from: Place,
-    to: Place,
-    halvings: u32,
-) -> Result<String, Fail> {
-    let bit = Bit::new(1, 1, 200).ok_or("a bit")?;
+fn linked(alloc: Global, scene: &Scene, from: Place, to: Place, halvings: u32) -> Option<String> {
     if halvings > MOST_HALVINGS {
-        return Err(Fail::from("halvings"));
+        return None;
     }
-    let steps = link(alloc, scene, &bit, LIMIT, node(from)?, node(to)?, halvings)?;
-    Ok(text_of(alloc, &steps)?)
+    let bit = Bit::new(1, 1, 200)?;
+    let steps = link(alloc, scene, &bit, LIMIT, node(from)?, node(to)?, halvings).ok()?;
+    text_of(alloc, &steps).ok()
 }
 
 #[test]
 fn links_go_straight_where_that_is_clear(rt: HostRuntime) -> Result<(), Fail> {
     let alloc = rt.alloc();
-    let scene = scene_of(alloc, &[ANGLE])?;
+    let scene = scene_of(alloc, ANGLE).ok_or("a scene")?;
     for (from, to, halvings, want) in [
         // Halfway is the inner corner, where no depth but 0 fits.
         ((100, 300, 100), (300, 100, 100), 8, "lift 300 100 100; "),
@@ -73,7 +62,7 @@ fn links_go_straight_where_that_is_clear(rt: HostRuntime) -> Result<(), Fail> {
             "to 137 212 63; lift 175 175 35; lift 212 137 63; to 250 100 100; ",
         ),
     ] {
-        let got = linked(alloc, &scene, from, to, halvings)?;
+        let got = linked(alloc, &scene, from, to, halvings).ok_or("a link")?;
         assert_eq!(rt; got.as_str(), want, "with {halvings}");
     }
     Ok(())
@@ -82,8 +71,8 @@ fn links_go_straight_where_that_is_clear(rt: HostRuntime) -> Result<(), Fail> {
 #[test]
 fn over_an_empty_drawing_each_link_is_a_lift(rt: HostRuntime) -> Result<(), Fail> {
     let alloc = rt.alloc();
-    let scene = scene_of(alloc, &[])?;
-    let got = linked(alloc, &scene, (100, 300, 100), (100, 100, 100), 8)?;
+    let scene = scene_of(alloc, "").ok_or("a scene")?;
+    let got = linked(alloc, &scene, (100, 300, 100), (100, 100, 100), 8).ok_or("a link")?;
     assert_eq!(rt; got.as_str(), "lift 100 100 100; ");
     Ok(())
 }

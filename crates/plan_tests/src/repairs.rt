@@ -1,6 +1,6 @@
 // Repairs of short programs in an L of 4 by 4 whose arms are 2 wide, worked by hand from the rule. Places are in tenths of a grid unit.
 use crate::small::{ANGLE, scene_of};
-use code_repair::repair;
+use code_repair::{Repaired, repair};
 use plane_exact::{Bit, LineMove, Move, Spot};
 use std::alloc::{AllocError, Global};
 use std::test::Fail;
@@ -41,24 +41,26 @@ fn moves_of(alloc: Global, places: &[Place]) -> Result<Vec<LineMove>, AllocError
     Ok(moves)
 }
 
-// The repair as text: `X,Y,H ` a visit, and the number of changed moves.
-fn repair_text(alloc: Global, rmax: u32, places: &[Place]) -> Result<String, Fail> {
-    let scene = scene_of(alloc, &[ANGLE])?;
-    let bit = Bit::new(1, 1, rmax).ok_or("a bit")?;
-    let moves = moves_of(alloc, places)?;
+// The repair of the moves along these places.
+fn repaired(alloc: Global, rmax: u32, places: &[Place]) -> Option<Repaired> {
+    let moves = moves_of(alloc, places).ok()?;
     if moves.len() > 100 {
-        return Err(Fail::from("few moves"));
+        return None;
     }
-    let repaired = repair(alloc, &scene, &bit, 200, &moves)
-        .ok()
-        .ok_or("a repair")?;
+    let scene = scene_of(alloc, ANGLE)?;
+    let bit = Bit::new(1, 1, rmax)?;
+    repair(alloc, &scene, &bit, 200, &moves).ok()
+}
+
+// The repair as text: `X,Y,H ` a visit, and the number of changed moves.
+fn text_of(alloc: Global, repaired: &Repaired) -> Result<String, AllocError> {
     let mut text = String::new(alloc);
     for spot in &repaired.visits {
         let (x, y, h) = (spot.x, spot.y, spot.h);
-        text.push_str(format!(in alloc; "{x},{y},{h} ")?.as_str())?;
+        write!(text, "{x},{y},{h} ")?;
     }
     let changed = repaired.changed;
-    text.push_str(format!(in alloc; "{changed}")?.as_str())?;
+    write!(text, "{changed}")?;
     Ok(text)
 }
 
@@ -102,7 +104,8 @@ fn moves_that_leave_the_drawing_become_lifts(rt: HostRuntime) -> Result<(), Fail
             "1000,3000,2000 1000,3000,2000 1000,3000,2000 1000,3000,2000 1",
         ),
     ] {
-        let got = repair_text(rt.alloc(), rmax, places)?;
+        let repaired = repaired(rt.alloc(), rmax, places).ok_or("a repair")?;
+        let got = text_of(rt.alloc(), &repaired)?;
         assert_eq!(rt; got.as_str(), want);
     }
     Ok(())

@@ -22,15 +22,19 @@ const CLOSED: &[Ends] = &[((0, 0), (4, 0)), ((4, 0), (0, 4)), ((0, 4), (0, 0))];
 
 const APART: &[Ends] = &[((0, 0), (4, 0)), ((0, 0), (0, 4))];
 
-fn strokes_of(alloc: Global, ends: &[Ends]) -> Result<Vec<Seg>, Fail> {
+fn stroke(ends: &Ends) -> Option<Seg> {
+    Some(Seg {
+        a: Point::new(ends.0.0, ends.0.1)?,
+        b: Point::new(ends.1.0, ends.1.1)?,
+    })
+}
+
+fn strokes_of(alloc: Global, ends: &[Ends]) -> Option<Vec<Seg>> {
     let mut strokes = Vec::new(alloc);
-    for (from, to) in ends {
-        strokes.push(Seg {
-            a: Point::new(from.0, from.1).ok_or("a start")?,
-            b: Point::new(to.0, to.1).ok_or("an end")?,
-        })?;
+    for two in ends {
+        strokes.push(stroke(two)?).ok()?;
     }
-    Ok(strokes)
+    Some(strokes)
 }
 
 // Whether the nodes of the chain lie over these points, at the depth 7.
@@ -40,55 +44,76 @@ fn is_chain(chain: &Chain, wanted: &[(i32, i32)]) -> bool {
             && node.depth == 7)
 }
 
-// The two counts, cut and all, for a bit of the slope sn / sd.
+// The two counts, cut and all, for a bit of the slope sn / sd, or why there are none.
 fn counts(
     alloc: Global,
     ends: &[Ends],
     slope: (u32, u32),
     depth: u32,
     pitch: u32,
-) -> Result<(u64, u64), Fail>
+) -> Option<Result<(u64, u64), CutFault>>
     requires depth { IsFromOneTo MOST_DEPTH depth }
     requires pitch { IsFromOneTo MOST_PITCH pitch }
 {
-    let bit = Bit::new(slope.0, slope.1, 600).ok_or("a bit")?;
-    Ok(stroke_cut(alloc, &strokes_of(alloc, ends)?, &bit, depth, pitch)?)
+    let bit = Bit::new(slope.0, slope.1, 600)?;
+    Some(stroke_cut(alloc, &strokes_of(alloc, ends)?, &bit, depth, pitch))
+}
+
+// The chains of the strokes at the depth 7.
+fn chains(alloc: Global, ends: &[Ends]) -> Option<Vec<Chain>> {
+    stroke_chains(alloc, &strokes_of(alloc, ends)?, 7).ok()
 }
 
 #[test]
 fn a_chain_goes_on_where_strokes_follow_each_other(rt: HostRuntime) -> Result<(), Fail> {
-    let path = stroke_chains(rt.alloc(), &strokes_of(rt.alloc(), PATH)?, 7)?;
+    let path = chains(rt.alloc(), PATH).ok_or("a path")?;
     assert_eq!(rt; path.len(), 1);
     assert!(rt; is_chain(&path[0], &[(0, 0), (100, 0), (100, 100), (0, 100)]));
-    let closed = stroke_chains(rt.alloc(), &strokes_of(rt.alloc(), CLOSED)?, 7)?;
-    assert_eq!(rt; closed.len(), 1);
-    assert!(rt; is_chain(&closed[0], &[(0, 0), (4, 0), (0, 4), (0, 0)]));
-    let apart = stroke_chains(rt.alloc(), &strokes_of(rt.alloc(), APART)?, 7)?;
-    assert_eq!(rt; apart.len(), 2);
-    assert!(rt; is_chain(&apart[1], &[(0, 0), (0, 4)]));
-    assert_eq!(rt; stroke_chains(rt.alloc(), &[], 7)?.len(), 0);
     Ok(())
 }
 
 #[test]
-fn points_in_the_disc_are_counted(rt: HostRuntime) -> Result<(), Fail> {
-    let a = rt.alloc();
-    assert_eq!(rt; counts(a, PATH, (1, 1), 10, 50)?, (7, 9));
-    assert_eq!(rt; counts(a, &[], (1, 1), 10, 50)?, (0, 0));
-    assert_eq!(rt; counts(a, &[((0, 0), (10, 0))], (1, 1), 1, 1)?, (11, 39));
-    assert_eq!(rt; counts(a, &[((0, 0), (7, 4))], (2, 3), 10, 1)?, (244, 418));
-    assert_eq!(rt;
-        counts(a, &[((32_760, 0), (32_767, 0))], (1, 1), 10, 1)?,
-        (295, 378)
-    );
-    assert_eq!(rt; counts(a, &[((2, 2), (3, 3))], (1, 1), 1, 10)?, (0, 0));
-    let grid = strokes_of(a, &[((-32_768, -32_768), (32_767, 32_767))])?;
-    let bit = Bit::new(1, 1, 600).ok_or("a bit")?;
-    assert!(rt;
-        matches!(
-            stroke_cut(a, &grid, &bit, 10, 1),
-            Err(CutFault::TooManyPoints)
-        )
-    );
+fn a_chain_may_come_back_to_where_it_began(rt: HostRuntime) -> Result<(), Fail> {
+    let closed = chains(rt.alloc(), CLOSED).ok_or("a closed path")?;
+    assert_eq!(rt; closed.len(), 1);
+    assert!(rt; is_chain(&closed[0], &[(0, 0), (4, 0), (0, 4), (0, 0)]));
     Ok(())
+}
+
+#[test]
+fn strokes_apart_are_chains_of_their_own(rt: HostRuntime) -> Result<(), Fail> {
+    let apart = chains(rt.alloc(), APART).ok_or("two strokes")?;
+    assert_eq!(rt; apart.len(), 2);
+    assert!(rt; is_chain(&apart[1], &[(0, 0), (0, 4)]));
+    let none = chains(rt.alloc(), &[]).ok_or("no strokes")?;
+    assert_eq!(rt; none.len(), 0);
+    Ok(())
+}
+
+#[test]
+fn points_in_the_disc_are_counted(rt: HostRuntime) {
+    let a = rt.alloc();
+    assert_eq!(rt; counts(a, PATH, (1, 1), 10, 50), Some(Ok((7, 9))));
+    assert_eq!(rt; counts(a, &[], (1, 1), 10, 50), Some(Ok((0, 0))));
+    assert_eq!(rt;
+        counts(a, &[((0, 0), (10, 0))], (1, 1), 1, 1),
+        Some(Ok((11, 39)))
+    );
+    assert_eq!(rt;
+        counts(a, &[((0, 0), (7, 4))], (2, 3), 10, 1),
+        Some(Ok((244, 418)))
+    );
+    assert_eq!(rt;
+        counts(a, &[((2, 2), (3, 3))], (1, 1), 1, 10),
+        Some(Ok((0, 0)))
+    );
+}
+
+#[test]
+fn points_are_counted_up_to_the_ends_of_the_grid(rt: HostRuntime) {
+    let a = rt.alloc();
+    let end = counts(a, &[((32_760, 0), (32_767, 0))], (1, 1), 10, 1);
+    assert_eq!(rt; end, Some(Ok((295, 378))));
+    let grid = counts(a, &[((-32_768, -32_768), (32_767, 32_767))], (1, 1), 10, 1);
+    assert_eq!(rt; grid, Some(Err(CutFault::TooManyPoints)));
 }

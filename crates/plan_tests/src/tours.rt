@@ -49,27 +49,32 @@ const CASES: &[Case] = &[
     },
 ];
 
-fn node_at(place: (i64, i64)) -> Result<Node, Fail> {
-    let at = Point::new(place.0, place.1).ok_or("a place")?;
-    Ok(Node { at, depth: 0 })
+fn node_at(place: (i64, i64)) -> Option<Node> {
+    let at = Point::new(place.0, place.1)?;
+    Some(Node { at, depth: 0 })
 }
 
-fn chain_through(alloc: Global, places: &[(i64, i64)]) -> Result<Chain, Fail> {
-    let (first, others) = places.split_first().ok_or("a chain")?;
-    let mut chain = Chain::one(alloc, node_at(*first)?)?;
+fn chain_through(alloc: Global, places: &[(i64, i64)]) -> Option<Chain> {
+    let (first, others) = places.split_first()?;
+    let mut chain = Chain::one(alloc, node_at(*first)?).ok()?;
     for place in others {
-        chain.push(node_at(*place)?)?;
+        chain.push(node_at(*place)?).ok()?;
     }
-    Ok(chain)
+    Some(chain)
+}
+
+fn chains_through(alloc: Global, places: &[&[(i64, i64)]]) -> Option<Vec<Chain>> {
+    let mut chains = Vec::new(alloc);
+    for chain in places {
+        chains.push(chain_through(alloc, chain)?).ok()?;
+    }
+    Some(chains)
 }
 
 #[test]
 fn orders(rt: HostRuntime) -> Result<(), Fail> {
     for case in CASES {
-        let mut chains = Vec::new(rt.alloc());
-        for places in case.chains {
-            chains.push(chain_through(rt.alloc(), places)?)?;
-        }
+        let chains = chains_through(rt.alloc(), case.chains).ok_or("chains")?;
         assert!(rt; chains.len() <= MOST_CHAINS);
         let found = order(rt.alloc(), &chains)?;
         assert_eq!(rt; found.as_slice(), case.want);

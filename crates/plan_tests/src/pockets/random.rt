@@ -19,31 +19,39 @@ fn next(state: &mut u64, reach: i32) -> i32 {
     (((*state >> 33) % count) as i32).wrapping_sub(reach)
 }
 
+// Up to four random points.
+fn random_loop(alloc: Global, state: &mut u64) -> Option<Vec<Point>> {
+    let mut points = Vec::new(alloc);
+    for _ in 0..(next(state, 1).max(0)).wrapping_add(3) {
+        let x = i64::from(next(state, REACH));
+        let y = i64::from(next(state, REACH));
+        points.push(Point::new(x, y)?).ok()?;
+    }
+    Some(points)
+}
+
 // A drawing of up to three loops of three or four points; a loop with two successive points that are the same is left out.
-fn random_scene(alloc: Global, state: &mut u64) -> Result<Scene, Fail> {
+fn random_scene(alloc: Global, state: &mut u64) -> Option<Scene> {
     let mut drawing = Drawing::empty(alloc);
     for _ in 0..next(state, 1).wrapping_add(2) {
-        let mut points = Vec::new(alloc);
-        for _ in 0..(next(state, 1).max(0)).wrapping_add(3) {
-            let x = i64::from(next(state, REACH));
-            let y = i64::from(next(state, REACH));
-            points.push(Point::new(x, y).ok_or("a point")?)?;
-        }
+        let points = random_loop(alloc, state)?;
         let _ = drawing.push_loop(&points);
     }
-    Ok(Scene::new(alloc, drawing)?)
+    Scene::new(alloc, drawing).ok()
+}
+
+fn push_node(text: &mut String, node: Node) -> Result<(), AllocError> {
+    let (x, y, depth) = (node.at.x(), node.at.y(), node.depth);
+    write!(text, "{x} {y} {depth}, ")
 }
 
 // The text of the chain along a run.
-fn push_run(alloc: Global, text: &mut String, first: Node, last: Node) -> Result<(), AllocError> {
-    let (x, y, depth) = (first.at.x(), first.at.y(), first.depth);
-    text.push_str(format!(in alloc; "{x} {y} {depth}, ")?.as_str())?;
+fn push_run(text: &mut String, first: Node, last: Node) -> Result<(), AllocError> {
+    push_node(text, first)?;
     if first != last {
-        let (x, y, depth) = (last.at.x(), last.at.y(), last.depth);
-        text.push_str(format!(in alloc; "{x} {y} {depth}, ")?.as_str())?;
+        push_node(text, last)?;
     }
-    text.push_str("up; ")?;
-    Ok(())
+    text.push_str("up; ")
 }
 
 // Whether the second node is the one behind the first on a line, and the bit may go on to it.
@@ -59,7 +67,7 @@ fn push_point(
     scene: &Scene,
     bit: &Bit,
     node: Node,
-) -> Result<(), Fail> {
+) -> Result<(), AllocError> {
     match runs.last_mut() {
         Some(run) if is_joined(scene, bit, run.1, node) => run.1 = node,
         _ => runs.push((node, node))?,
@@ -67,52 +75,70 @@ fn push_point(
     Ok(())
 }
 
-// Adds the chains of one line, point by point.
-fn push_line(
+// The runs of one line, point by point.
+fn runs_of(
     alloc: Global,
-    text: &mut String,
     scene: &Scene,
     bit: &Bit,
     at: i32,
     is_row: bool,
-) -> Result<(), Fail> {
+) -> Option<Vec<(Node, Node)>> {
     let depth = deepest(bit, 2);
     let mut runs = Vec::new(alloc);
     for place in -REACH..REACH.wrapping_add(1) {
         let (x, y) = if is_row { (place, at) } else { (at, place) };
-        let p = Point::new(i64::from(x), i64::from(y)).ok_or("a point")?;
+        let p = Point::new(i64::from(x), i64::from(y))?;
         if greatest_depth(scene, p, bit, 2) == depth {
-            push_point(&mut runs, scene, bit, Node { at: p, depth })?;
+            push_point(&mut runs, scene, bit, Node { at: p, depth }).ok()?;
         }
     }
-    for (first, last) in &runs {
-        push_run(alloc, text, *first, *last)?;
+    Some(runs)
+}
+
+// Adds the chains of all rows, or of all columns.
+fn push_lines(
+    alloc: Global,
+    text: &mut String,
+    scene: &Scene,
+    bit: &Bit,
+    are_rows: bool,
+) -> Option<()> {
+    for at in -REACH..REACH.wrapping_add(1) {
+        for (first, last) in &runs_of(alloc, scene, bit, at, are_rows)? {
+            push_run(text, *first, *last).ok()?;
+        }
     }
-    Ok(())
+    Some(())
+}
+
+// The text of the pocket, point by point.
+fn walked(alloc: Global, scene: &Scene, bit: &Bit) -> Option<String> {
+    let mut text = String::new(alloc);
+    push_lines(alloc, &mut text, scene, bit, true)?;
+    push_lines(alloc, &mut text, scene, bit, false)?;
+    Some(text)
+}
+
+fn pocket_text(alloc: Global, scene: &Scene, bit: &Bit) -> Option<String> {
+    let chains = pocket(alloc, scene, bit, 2, 1, Way::Both).ok()?;
+    text_of(alloc, &chains).ok()
+}
+
+// One of four bits in turn.
+fn bit_of(number: u32) -> Option<Bit> {
+    let (sn, sd) = [(1, 1), (1, 2), (1, 10), (3, 2)][(number % 4) as usize];
+    Bit::new(sn, sd, 3)
 }
 
 #[test]
 fn two_hundred_pockets_are_those_of_their_points_one_by_one(rt: HostRuntime) -> Result<(), Fail> {
-    let alloc = rt.alloc();
     let mut state = 1;
     for number in 0..200u32 {
-        let scene = random_scene(alloc, &mut state)?;
-        let slope = [(1, 1), (1, 2), (1, 10), (3, 2)][(number % 4) as usize];
-        let bit = Bit::new(slope.0, slope.1, 3).ok_or("a bit")?;
-        let chains = pocket(alloc, &scene, &bit, 2, 1, Way::Both)
-            .ok()
-            .ok_or("a pocket")?;
-        let mut want = String::new(alloc);
-        for is_row in [true, false] {
-            for at in -REACH..REACH.wrapping_add(1) {
-                push_line(alloc, &mut want, &scene, &bit, at, is_row)?;
-            }
-        }
-        assert_eq!(rt;
-            text_of(alloc, &chains)?.as_str(),
-            want.as_str(),
-            "the chains of case {number}"
-        );
+        let scene = random_scene(rt.alloc(), &mut state).ok_or("a scene")?;
+        let bit = bit_of(number).ok_or("a bit")?;
+        let got = pocket_text(rt.alloc(), &scene, &bit).ok_or("a pocket")?;
+        let want = walked(rt.alloc(), &scene, &bit).ok_or("a walk")?;
+        assert_eq!(rt; got.as_str(), want.as_str(), "the chains of case {number}");
     }
     Ok(())
 }
