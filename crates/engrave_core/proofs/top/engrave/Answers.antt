@@ -2,7 +2,7 @@
 use Rattle.std.specs.Prelude.{map, string_bytes}
 use Rattle.std.proofs.Common.{inr}
 use Rattle.job_words.specs.Request.{request_of}
-use Rattle.engrave_core.proofs.Safety.{good_repair, good_text, true_engraving, true_milling, true_report, written_is_safe, written_is_so, written_is_true}
+use Rattle.engrave_core.proofs.Safety.{done_is, good_repair, good_text, safe_run, true_engraving, true_milling, true_report, written_is, written_is_true}
 use Rattle.engrave_core.proofs.Writing.{IfSome-map, caused_after, part_of_due, completes}
 use Rattle.engrave_core.proofs.top.engrave.Goals as goal
 
@@ -26,59 +26,36 @@ returns-in-Ok-clause-complete g c =
 
 pub returns-in-Ok-clause-safe : goal.returns-in-Ok-clause-safe
 returns-in-Ok-clause-safe g c =
-    IfSome-map (g.D.Depot.held c.args.depot.now)
-    (λ files due done. written_is_safe files (request_of (map string_bytes c.args.words.now)) c.in-Ok.reply.text.items
-    c.in-Ok.reply.outcome c.write.result c.write.ensures.either due done)
-    c.in-Ok.ensures.due
+    done_is (request_of (map string_bytes c.args.words.now)) c.in-Ok.reply.text.items c.in-Ok.reply.outcome c.write.result c.write.ensures.either
+    (g.D.Depot.held c.args.depot.now) c.in-Ok.ensures.due _ (safe_run _ _)
 
 pub returns-in-Ok-clause-exact : goal.returns-in-Ok-clause-exact
 returns-in-Ok-clause-exact g c =
     IfSome-map (g.D.Depot.held c.args.depot.now)
-    (λ files due. written_is_true files (request_of (map string_bytes c.args.words.now)) c.in-Ok.reply.text.items
-    c.in-Ok.reply.outcome c.write.result c.write.ensures.either due)
+    (written_is_true (request_of (map string_bytes c.args.words.now)) c.in-Ok.reply.text.items c.in-Ok.reply.outcome c.write.result c.write.ensures.either)
     c.in-Ok.ensures.due
 
 pub returns-in-Ok-clause-carved : goal.returns-in-Ok-clause-carved
 returns-in-Ok-clause-carved g c =
-    IfSome-map (g.D.Depot.held c.args.depot.now)
-    (λ files due done. written_is_so files (request_of (map string_bytes c.args.words.now)) c.in-Ok.reply.text.items
-    c.in-Ok.reply.outcome c.write.result _ _ _
-    (good_text files (request_of (map string_bytes c.args.words.now)) c.in-Ok.reply.text.items c.in-Ok.reply.outcome c.write.result)
-    c.write.ensures.either due c.write.ensures.written done)
-    c.in-Ok.ensures.due
+    written_is (request_of (map string_bytes c.args.words.now)) c.in-Ok.reply.text.items c.in-Ok.reply.outcome c.write.result c.write.ensures.either
+    (g.D.Depot.held c.args.depot.now) c.in-Ok.ensures.due _ _ _ (good_text _ _) c.write.ensures.written
 
 pub returns-in-Ok-clause-engraved : goal.returns-in-Ok-clause-engraved
 returns-in-Ok-clause-engraved g c =
-    IfSome-map (g.D.Depot.held c.args.depot.now)
-    (λ files due done. written_is_so files (request_of (map string_bytes c.args.words.now)) c.in-Ok.reply.text.items
-    c.in-Ok.reply.outcome c.write.result _ _ _
-    (true_engraving files (request_of (map string_bytes c.args.words.now)) c.in-Ok.reply.text.items c.in-Ok.reply.outcome c.write.result)
-    c.write.ensures.either due c.write.ensures.written done)
-    c.in-Ok.ensures.due
+    written_is (request_of (map string_bytes c.args.words.now)) c.in-Ok.reply.text.items c.in-Ok.reply.outcome c.write.result c.write.ensures.either
+    (g.D.Depot.held c.args.depot.now) c.in-Ok.ensures.due _ _ _ (true_engraving _ _) c.write.ensures.written
 
 pub returns-in-Ok-clause-milled : goal.returns-in-Ok-clause-milled
 returns-in-Ok-clause-milled g c =
-    IfSome-map (g.D.Depot.held c.args.depot.now)
-    (λ files due done. written_is_so files (request_of (map string_bytes c.args.words.now)) c.in-Ok.reply.text.items
-    c.in-Ok.reply.outcome c.write.result _ _ _
-    (true_milling files (request_of (map string_bytes c.args.words.now)) c.in-Ok.reply.text.items c.in-Ok.reply.outcome c.write.result)
-    c.write.ensures.either due c.write.ensures.written done)
-    c.in-Ok.ensures.due
+    written_is (request_of (map string_bytes c.args.words.now)) c.in-Ok.reply.text.items c.in-Ok.reply.outcome c.write.result c.write.ensures.either
+    (g.D.Depot.held c.args.depot.now) c.in-Ok.ensures.due _ _ _ (true_milling _ _) c.write.ensures.written
 
 pub returns-in-Ok-clause-covered : goal.returns-in-Ok-clause-covered
 returns-in-Ok-clause-covered g c =
-    IfSome-map (g.D.Depot.held c.args.depot.now)
-    (λ files due done. written_is_so files (request_of (map string_bytes c.args.words.now)) c.in-Ok.reply.text.items
-    c.in-Ok.reply.outcome c.write.result _ _ _
-    (true_report files (request_of (map string_bytes c.args.words.now)) c.in-Ok.reply.text.items c.in-Ok.reply.outcome c.write.result)
-    c.write.ensures.either due c.write.ensures.written done)
-    c.in-Ok.ensures.due
+    written_is (request_of (map string_bytes c.args.words.now)) c.in-Ok.reply.text.items c.in-Ok.reply.outcome c.write.result c.write.ensures.either
+    (g.D.Depot.held c.args.depot.now) c.in-Ok.ensures.due _ _ _ (true_report _ _) c.write.ensures.written
 
 pub returns-in-Ok-clause-repaired : goal.returns-in-Ok-clause-repaired
 returns-in-Ok-clause-repaired g c =
-    IfSome-map (g.D.Depot.held c.args.depot.now)
-    (λ files due done. written_is_so files (request_of (map string_bytes c.args.words.now)) c.in-Ok.reply.text.items
-    c.in-Ok.reply.outcome c.write.result _ _ _
-    (good_repair files (request_of (map string_bytes c.args.words.now)) c.in-Ok.reply.text.items c.in-Ok.reply.outcome c.write.result)
-    c.write.ensures.either due c.write.ensures.written done)
-    c.in-Ok.ensures.due
+    written_is (request_of (map string_bytes c.args.words.now)) c.in-Ok.reply.text.items c.in-Ok.reply.outcome c.write.result c.write.ensures.either
+    (g.D.Depot.held c.args.depot.now) c.in-Ok.ensures.due _ _ _ (good_repair _ _) c.write.ensures.written
