@@ -23,85 +23,133 @@ mod strokes;
 mod trial;
 
 use engrave_core::{engrave, status};
-use shop_port::{MemDepot, MemSink};
-use std::alloc::Global;
+use shop_port::{Depot, MemDepot, MemSink};
+use std::alloc::{AllocError, Global};
 use std::collections::BTreeMap;
 use std::process::Abort;
-use std::test::Fail;
 
 /// A square plate of 10 mm.
 const SQUARE: &str = "0,0 1000,0 1000,1000 0,1000";
 
 const FIRST: &str = "probe --drawing=d --at=500,500 --bit=1/1 --rmax=600";
 
-fn listed(alloc: Global, words: &str) -> Result<Vec<String>, Fail> {
+/// A row of a table: the words behind those that its rows share, a drawing and a code, and the status and the text of the run.
+type Case<'a> = (&'a str, (&'a str, &'a str), (u8, &'a str));
+
+/// The words of these parts.
+fn listed(alloc: Global, parts: &[&str]) -> Result<Vec<String>, AllocError> {
     let mut list = Vec::new(alloc);
-    for word in words.split_whitespace() {
-        list.push(String::from_str(alloc, word)?)?;
+    for part in parts {
+        for word in part.split_whitespace() {
+            list.push(String::from_str(alloc, word)?)?;
+        }
     }
     Ok(list)
 }
 
+/// The words, and behind them one that may have blanks.
+fn listed_with(
+    alloc: Global,
+    parts: &[&str],
+    last: (&str, &str),
+) -> Result<Vec<String>, AllocError> {
+    let mut list = listed(alloc, parts)?;
+    let (option, value) = last;
+    list.push(format!(in alloc; "{option}{value}")?)?;
+    Ok(list)
+}
+
+fn put(
+    alloc: Global,
+    files: &mut BTreeMap<String, Vec<u8>>,
+    name: &str,
+    bytes: &[u8],
+) -> Result<(), AllocError> {
+    let name = String::from_str(alloc, name)?;
+    files.insert(name, bytes.to_vec(alloc)?)?;
+    Ok(())
+}
+
 /// A drawing of the name `d`, and a code of the name `c`.
-fn shelf(alloc: Global, drawing: &str, code: &str) -> Result<BTreeMap<String, Vec<u8>>, Fail> {
+fn shelf(
+    alloc: Global,
+    drawing: &[u8],
+    code: &[u8],
+) -> Result<BTreeMap<String, Vec<u8>>, AllocError> {
     let mut files = BTreeMap::new(alloc);
-    let drawing = drawing.as_bytes().to_vec(alloc)?;
-    files.insert(String::from_str(alloc, "d")?, drawing)?;
-    let code = code.as_bytes().to_vec(alloc)?;
-    files.insert(String::from_str(alloc, "c")?, code)?;
+    put(alloc, &mut files, "d", drawing)?;
+    put(alloc, &mut files, "c", code)?;
     Ok(files)
 }
 
-/// What a run of the words comes to, and what it has written, where the calls of these numbers fail.
-fn run(
+/// What a run over these devices comes to, and what they have written, or nothing where there is no memory for it.
+fn told<D: Depot>(
     alloc: Global,
-    words: &str,
-    files: (&str, &str),
-    per_call: usize,
-    failing: (u64, u64),
-) -> Result<(u8, String), Fail>
-    requires { 1 ≤ per_call }
-{
-    run_words(alloc, &listed(alloc, words)?, files, per_call, failing)
+    words: &[String],
+    depot: &mut D,
+    out: &mut MemSink,
+) -> Option<(u8, String)> {
+    let status = status(&engrave(alloc, words, depot, out));
+    let bytes = out.bytes().to_vec(alloc).ok()?;
+    Some((status, String::from_utf8(bytes).ok()?))
 }
 
+/// The same over files in memory, where the calls of these numbers fail.
 fn run_words(
     alloc: Global,
     words: &[String],
     files: (&str, &str),
     per_call: usize,
     failing: (u64, u64),
-) -> Result<(u8, String), Fail>
+) -> Option<(u8, String)>
     requires { 1 ≤ per_call }
 {
-    let (reads, writes) = failing;
-    let mut depot = MemDepot::new(
-        shelf(alloc, files.0, files.1)?,
-        per_call,
-        [reads].to_vec(alloc)?,
-    );
-    let mut out = MemSink::new(alloc, per_call, [writes].to_vec(alloc)?);
-    let outcome = engrave(alloc, words, &mut depot, &mut out);
-    let text = String::from_utf8(out.bytes().to_vec(alloc)?)
-        .ok()
-        .ok_or("text")?;
-    Ok((status(&outcome), text))
+    let reads = [failing.0].to_vec(alloc).ok()?;
+    let writes = [failing.1].to_vec(alloc).ok()?;
+    let files = shelf(alloc, files.0.as_bytes(), files.1.as_bytes()).ok()?;
+    let mut depot = MemDepot::new(files, per_call, reads);
+    let mut out = MemSink::new(alloc, per_call, writes);
+    told(alloc, words, &mut depot, &mut out)
+}
+
+/// The status of a run that there is no memory for, which no test expects.
+const NOT_RUN: u8 = 255;
+
+/// What a run of the words of these parts comes to, and what it has written, where the calls of these numbers fail.
+fn run(
+    alloc: Global,
+    parts: &[&str],
+    files: (&str, &str),
+    per_call: usize,
+    failing: (u64, u64),
+) -> (u8, String)
+    requires { 1 ≤ per_call }
+{
+    let told = match listed(alloc, parts) {
+        Ok(words) => run_words(alloc, &words, files, per_call, failing),
+        Err(_) => None,
+    };
+    told.unwrap_or((NOT_RUN, String::new(alloc)))
 }
 
 /// No call has this number.
 const NEVER: u64 = 0;
 
-/// Expects that a run of the words, where no call fails, has this status and writes this text.
-fn expect(
-    rt: &impl Abort,
-    alloc: Global,
-    words: &str,
-    files: (&str, &str),
-    want: (u8, &str),
-) -> Result<(), Fail> {
-    let (status, text) = run(alloc, words, files, 65_536, (NEVER, NEVER))?;
-    assert_eq!(rt; (status, text.as_str()), want, "{words} of {files:?}");
-    Ok(())
+/// The same where no call fails.
+fn plain_run(alloc: Global, parts: &[&str], files: (&str, &str)) -> (u8, String) {
+    run(alloc, parts, files, 65_536, (NEVER, NEVER))
+}
+
+/// Expects of each row that a run of its words, behind those that all rows share, has its status and writes its text.
+fn expect(rt: &impl Abort, alloc: Global, shared: &str, cases: &[Case<'_>]) {
+    for (words, files, want) in cases {
+        let (status, text) = plain_run(alloc, &[shared, words], *files);
+        assert_eq!(rt;
+            (status, text.as_str()),
+            *want,
+            "{shared} {words} of {files:?}"
+        );
+    }
 }
 
 /// A plate in the shape of an L.

@@ -1,7 +1,6 @@
 // Drawings whose edges cross or overlap, by the even-odd rule: what is refused else, and depths, verdicts and programs where it is not.
 
-use super::{NEVER, SQUARE, expect, run};
-use std::test::Fail;
+use super::{Case, SQUARE, expect, plain_run};
 
 /// Two squares whose corners lie in each other.
 const CROSSING: &str = "0,0 200,0 200,200 0,200\n100,100 300,100 300,300 100,300";
@@ -27,108 +26,96 @@ const PLUNGE: &str = "G21\nG0 Z2\nG0 X0.5 Y1\nG1 Z-0.5\nM2\n";
 /// The same, and on through the edge of the other square.
 const THROUGH: &str = "G21\nG0 Z2\nG0 X0.5 Y1\nG1 Z-0.5\nG1 X1.5\nM2\n";
 
-#[test]
-fn a_drawing_that_crosses_is_taken_where_the_words_say_so(rt: HostRuntime) -> Result<(), Fail> {
-    for (words, drawing, want, text) in [
-        ("flatten --drawing=d", CROSSING, 3, "input cross 1,4\n"),
+const CASES: &[Case<'static>] = &[
+    (
+        "flatten --drawing=d",
+        (CROSSING, ""),
+        (3, "input cross 1,4\n"),
+    ),
+    (
+        "flatten --drawing=d --cross=refuse",
+        (TWICE, ""),
+        (3, "input cross 0,4\n"),
+    ),
+    (
+        "flatten --drawing=d --cross=evenodd",
+        (CROSSING, ""),
         (
-            "flatten --drawing=d --cross=refuse",
-            TWICE,
-            3,
-            "input cross 0,4\n",
-        ),
-        (
-            "flatten --drawing=d --cross=evenodd",
-            CROSSING,
             0,
             "0,0 200,0 200,200 0,200\n100,100 300,100 300,300 100,300\n",
         ),
-        (
-            "probe --drawing=d --cross=evenodd --at=150,150 --bit=1/1 --rmax=600",
-            CROSSING,
-            0,
-            "depth 0\n",
-        ),
-        (
-            "probe --drawing=d --cross=evenodd --at=50,100 --bit=1/1 --rmax=600",
-            CROSSING,
-            0,
-            "depth 50\n",
-        ),
-        (
-            "probe --drawing=d --cross=evenodd --at=50,50 --bit=1/1 --rmax=600",
-            TWICE,
-            0,
-            "depth 0\n",
-        ),
-        // A drawing without a crossing is the same either way.
-        (
-            "probe --drawing=d --cross=evenodd --at=500,500 --bit=1/1 --rmax=600",
-            SQUARE,
-            0,
-            "depth 500\n",
-        ),
-        // What is open is refused all the same.
-        (
-            "flatten --drawing=d --cross=evenodd --form=cxf --text=I",
-            "[I] 1\nL 0,0,0,9\n",
-            3,
-            "input open 0,0\n",
-        ),
-    ] {
-        expect(&rt, rt.alloc(), words, (drawing, ""), (want, text))?;
-    }
-    Ok(())
-}
-
-#[test]
-fn a_program_over_crossing_squares_is_judged_by_parity(rt: HostRuntime) -> Result<(), Fail> {
-    let words = "check --drawing=d --cross=evenodd --code=c --bit=1/1 --rmax=200";
-    expect(
-        &rt,
-        rt.alloc(),
-        words,
+    ),
+    (
+        "probe --drawing=d --cross=evenodd --at=150,150 --bit=1/1 --rmax=600",
+        (CROSSING, ""),
+        (0, "depth 0\n"),
+    ),
+    (
+        "probe --drawing=d --cross=evenodd --at=50,100 --bit=1/1 --rmax=600",
+        (CROSSING, ""),
+        (0, "depth 50\n"),
+    ),
+    (
+        "probe --drawing=d --cross=evenodd --at=50,50 --bit=1/1 --rmax=600",
+        (TWICE, ""),
+        (0, "depth 0\n"),
+    ),
+    // A drawing without a crossing is the same either way.
+    (
+        "probe --drawing=d --cross=evenodd --at=500,500 --bit=1/1 --rmax=600",
+        (SQUARE, ""),
+        (0, "depth 500\n"),
+    ),
+    // What is open is refused all the same.
+    (
+        "flatten --drawing=d --cross=evenodd --form=cxf --text=I",
+        ("[I] 1\nL 0,0,0,9\n", ""),
+        (3, "input open 0,0\n"),
+    ),
+    // A program over crossing squares is judged by parity.
+    (
+        "check --drawing=d --cross=evenodd --code=c --bit=1/1 --rmax=200",
         (CROSSING, PLUNGE),
         (0, "clear 1 moves\n"),
-    )?;
-    expect(
-        &rt,
-        rt.alloc(),
-        words,
+    ),
+    (
+        "check --drawing=d --cross=evenodd --code=c --bit=1/1 --rmax=200",
         (CROSSING, THROUGH),
         (1, "line 5 gouge edge 4\n"),
-    )
+    ),
+    // Sides that are shared, and strokes that overlap.
+    (
+        "carve --drawing=d --form=dxf --bit=1/1 --rmax=40 --step=20",
+        (SHARED, ""),
+        (3, "input cross 1,7\n"),
+    ),
+    (
+        "carve --drawing=d --form=cxf --text=+ --height=90 --bit=1/1 --rmax=40 --step=20",
+        (PLUS, ""),
+        (3, "input cross 0,5\n"),
+    ),
+];
+
+#[test]
+fn a_drawing_that_crosses_is_taken_where_the_words_say_so(rt: HostRuntime) {
+    expect(&rt, rt.alloc(), "", CASES);
 }
 
 #[test]
-fn overlapping_strokes_and_shared_sides_are_carved_and_checked(
-    rt: HostRuntime,
-) -> Result<(), Fail> {
+fn overlapping_strokes_and_shared_sides_are_carved_and_checked(rt: HostRuntime) {
     let alloc = rt.alloc();
-    for (drawing, form, crossing) in [
-        (SHARED, "--form=dxf", "input cross 1,7\n"),
-        (PLUS, "--form=cxf --text=+ --height=90", "input cross 0,5\n"),
+    let options = "--cross=evenodd --bit=1/1 --rmax=40 --step=20";
+    let checks = "--cross=evenodd --code=c --bit=1/1 --rmax=40";
+    for (drawing, form) in [
+        (SHARED, "--form=dxf"),
+        (PLUS, "--form=cxf --text=+ --height=90"),
     ] {
-        let words = format!(in alloc; "carve --drawing=d {form} --bit=1/1 --rmax=40 --step=20")?;
-        expect(&rt, alloc, words.as_str(), (drawing, ""), (3, crossing))?;
-        let words = format!(in alloc;
-            "carve --drawing=d {form} --cross=evenodd --bit=1/1 --rmax=40 --step=20"
-        )?;
-        let (status, code) = run(alloc, words.as_str(), (drawing, ""), 65_536, (NEVER, NEVER))?;
-        assert_eq!(rt; status, 0, "{words}");
-        for command in ["check", "cover"] {
-            let words = format!(in alloc;
-                "{command} --drawing=d {form} --cross=evenodd --code=c --bit=1/1 --rmax=40"
-            )?;
-            let (status, _) = run(
-                alloc,
-                words.as_str(),
-                (drawing, code.as_str()),
-                65_536,
-                (NEVER, NEVER),
-            )?;
-            assert_eq!(rt; status, 0, "{words}");
+        let (status, code) = plain_run(alloc, &["carve --drawing=d", form, options], (drawing, ""));
+        assert_eq!(rt; status, 0, "carve {form}");
+        for command in ["check --drawing=d", "cover --drawing=d"] {
+            let files = (drawing, code.as_str());
+            let (status, _) = plain_run(alloc, &[command, form, checks], files);
+            assert_eq!(rt; status, 0, "{command} {form}");
         }
     }
-    Ok(())
 }

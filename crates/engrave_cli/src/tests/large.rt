@@ -1,6 +1,6 @@
 // A drawing of some thousand edges, and a G-code program of some thousand moves.
 
-use super::{NEVER, run};
+use super::{expect, plain_run};
 use std::alloc::{AllocError, Global};
 use std::test::Fail;
 
@@ -12,31 +12,30 @@ fn sieve(alloc: Global) -> Result<String, AllocError> {
         for column in 1..33u32 {
             let (left, right) = (600 * column - 5, 600 * column + 5);
             let (low, high) = (600 * row - 5, 600 * row + 5);
-            let hole = format!(in alloc;
-                "{left},{low} {right},{low} {right},{high} {left},{high}\n"
+            writeln!(
+                drawing,
+                "{left},{low} {right},{low} {right},{high} {left},{high}"
             )?;
-            drawing.push_str(hole.as_str())?;
         }
     }
     Ok(drawing)
 }
 
 /// Goes between the rows of holes, in 60 moves a row, at the surface and in the last row below it: 2,017 lines with 2,015
-/// moves.
-fn furrows(alloc: Global) -> Result<String, AllocError> {
+/// moves, and lines behind them.
+fn furrows(alloc: Global, behind: &str) -> Result<String, AllocError> {
     let mut code = String::from_str(alloc, "G0 Z2\n")?;
     for row in 0..32u32 {
         let y = 6 * row + 3;
         let z = if row == 31 { "-0.1" } else { "0" };
-        let begin = format!(in alloc; "G0 X3 Y{y}\nG1 Z{z}\n")?;
-        code.push_str(begin.as_str())?;
+        writeln!(code, "G0 X3 Y{y}\nG1 Z{z}")?;
         for step in 1..61u32 {
             let x = 3 + 3 * step;
-            let cut = format!(in alloc; "G1 X{x}\n")?;
-            code.push_str(cut.as_str())?;
+            writeln!(code, "G1 X{x}")?;
         }
         code.push_str("G0 Z2\n")?;
     }
+    code.push_str(behind)?;
     Ok(code)
 }
 
@@ -44,45 +43,31 @@ fn furrows(alloc: Global) -> Result<String, AllocError> {
 const INTO_THE_LAST_HOLE: &str = "G0 X192 Y190\nG1 Z-0.1\nG1 Y192\n";
 
 #[test]
-fn thousands_of_moves_and_edges_are_checked(rt: HostRuntime) -> Result<(), Fail> {
-    let alloc = rt.alloc();
-    let words = "check --drawing=d --code=c --bit=1/1 --rmax=600";
-    let drawing = sieve(alloc)?;
-    let mut code = furrows(alloc)?;
-    let files = (drawing.as_str(), code.as_str());
-    let (status, text) = run(alloc, words, files, 65_536, (NEVER, NEVER))?;
-    assert_eq!(rt; (status, text.as_str()), (0, "clear 2015 moves\n"));
-    code.push_str(INTO_THE_LAST_HOLE)?;
-    let files = (drawing.as_str(), code.as_str());
-    let (status, text) = run(alloc, words, files, 65_536, (NEVER, NEVER))?;
-    assert_eq!(rt; (status, text.as_str()), (1, "line 2020 gouge edge 4096\n"));
-    Ok(())
-}
-
-#[test]
-fn thousands_of_edges_are_probed(rt: HostRuntime) -> Result<(), Fail> {
-    let alloc = rt.alloc();
-    let drawing = sieve(alloc)?;
-    for (at, line) in [("19200,19100", "depth 95\n"), ("19200,19200", "depth 0\n")] {
-        let words = format!(in alloc; "probe --drawing=d --at={at} --bit=1/1 --rmax=600")?;
-        let files = (drawing.as_str(), "");
-        let (status, text) = run(alloc, words.as_str(), files, 65_536, (NEVER, NEVER))?;
-        assert_eq!(rt; (status, text.as_str()), (0, line), "{at}");
-    }
+fn thousands_of_moves_and_edges_are_checked_and_probed(rt: HostRuntime) -> Result<(), Fail> {
+    let drawing = sieve(rt.alloc())?;
+    let code = furrows(rt.alloc(), "")?;
+    let gouging = furrows(rt.alloc(), INTO_THE_LAST_HOLE)?;
+    let drawing = drawing.as_str();
+    let check = "check --drawing=d --code=c --bit=1/1 --rmax=600";
+    let gouge = (1, "line 2020 gouge edge 4096\n");
+    let beside = "probe --drawing=d --at=19200,19100 --bit=1/1 --rmax=600";
+    let hole = "probe --drawing=d --at=19200,19200 --bit=1/1 --rmax=600";
+    let cases = [
+        (check, (drawing, code.as_str()), (0, "clear 2015 moves\n")),
+        (check, (drawing, gouging.as_str()), gouge),
+        (beside, (drawing, ""), (0, "depth 95\n")),
+        (hole, (drawing, ""), (0, "depth 0\n")),
+    ];
+    expect(&rt, rt.alloc(), "", &cases);
     Ok(())
 }
 
 #[test]
 fn thousands_of_moves_are_listed(rt: HostRuntime) -> Result<(), Fail> {
-    let alloc = rt.alloc();
-    let code = furrows(alloc)?;
-    let files = ("", code.as_str());
-    let (status, text) = run(alloc, "moves --code=c", files, 65_536, (NEVER, NEVER))?;
-    assert_eq!(rt; status, 0);
-    assert_eq!(rt; text.as_str().lines().count(), 2016);
-    assert!(rt;
-        text.as_str()
-            .ends_with("2017 18300,18900,-10 18300,18900,200\nmoves 2015\n")
-    );
+    let code = furrows(rt.alloc(), "")?;
+    let (status, text) = plain_run(rt.alloc(), &["moves --code=c"], ("", code.as_str()));
+    assert_eq!(rt; (status, text.as_str().lines().count()), (0, 2016));
+    let last = "2017 18300,18900,-10 18300,18900,200\nmoves 2015\n";
+    assert!(rt; text.as_str().ends_with(last));
     Ok(())
 }

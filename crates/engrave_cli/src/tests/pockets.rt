@@ -1,7 +1,6 @@
 // `carve` with clean-up pockets, over a small square: its whole program by rows, worked by hand, and what `check` says of it.
 
-use super::{NEVER, expect, run};
-use std::test::Fail;
+use super::{Case, expect, plain_run};
 
 /// A square of 10 grid units.
 const TEN: &str = "0,0 10,0 10,10 0,10";
@@ -15,42 +14,50 @@ const BY_ROWS: &str = "(bit 1/1 rmax 2 limit 2 step 10)\nG21\nG90\nF500\nG0 Z2.0
     G0 X0.00 Y0.10\nG1 Z0.00\nG0 Z2.00\n\
     (uncut y 1 x 1 to 9)\n(uncut y 8 x 1 to 9)\n(uncut y 9 x 1 to 9)\n(uncut 27 of 81)\nM2\n";
 
-const JOB: &str = "carve --drawing=d --bit=1/1 --rmax=2 --step=10 --limit=2";
+/// The rows and columns of a pocket: each of the five chains at the surface has three lines, and each of a pocket four. Before them stand
+/// five lines, and behind them the report, of no point, and the end.
+const LINES: &[(&str, usize)] = &[
+    ("--pocket=none", 22),
+    ("--pocket=x --over=3", 30),
+    ("--pocket=y --over=3", 30),
+    ("--pocket=both --over=3", 38),
+    // One row through the middle, and with the greatest distance the row on the lower side, where nothing fits.
+    ("--pocket=x --over=5", 26),
+    ("--pocket=x --over=8191", 22),
+    ("--pocket=both", 22),
+];
+
+const CASES: &[Case<'static>] = &[
+    (
+        "carve --drawing=d --bit=1/1 --rmax=2 --step=10 --limit=2 --pitch=1 --pocket=x --over=3",
+        (TEN, ""),
+        (0, BY_ROWS),
+    ),
+    (
+        "check --drawing=d --code=c --bit=1/1 --rmax=2",
+        (TEN, BY_ROWS),
+        (0, "clear 22 moves\n"),
+    ),
+    (
+        "cover --drawing=d --code=c --bit=1/1 --rmax=2 --pitch=1",
+        (TEN, BY_ROWS),
+        (
+            0,
+            "uncut y 1 x 1 to 9\nuncut y 8 x 1 to 9\nuncut y 9 x 1 to 9\nuncut 27 of 81\n",
+        ),
+    ),
+];
 
 #[test]
-fn a_square_s_floor_is_milled_by_rows(rt: HostRuntime) -> Result<(), Fail> {
-    let alloc = rt.alloc();
-    let words = format!(in alloc; "{JOB} --pitch=1 --pocket=x --over=3")?;
-    expect(&rt, alloc, words.as_str(), (TEN, ""), (0, BY_ROWS))?;
-    let words = "check --drawing=d --code=c --bit=1/1 --rmax=2";
-    expect(&rt, alloc, words, (TEN, BY_ROWS), (0, "clear 22 moves\n"))?;
-    let words = "cover --drawing=d --code=c --bit=1/1 --rmax=2 --pitch=1";
-    let left = "uncut y 1 x 1 to 9\nuncut y 8 x 1 to 9\nuncut y 9 x 1 to 9\nuncut 27 of 81\n";
-    expect(&rt, alloc, words, (TEN, BY_ROWS), (0, left))
-}
-
-#[test]
-fn the_lines_of_a_pocket_are_rows_columns_or_both(rt: HostRuntime) -> Result<(), Fail> {
-    let alloc = rt.alloc();
-    // Each of the five chains at the surface has three lines, and each of a pocket four. Before them stand five lines, and behind them the
-    // report, of no point, and the end.
-    for (pocket, want) in [
-        ("--pocket=none", 22),
-        ("--pocket=x --over=3", 30),
-        ("--pocket=y --over=3", 30),
-        ("--pocket=both --over=3", 38),
-        // One row through the middle, and with the greatest distance the row on the lower side, where nothing fits.
-        ("--pocket=x --over=5", 26),
-        ("--pocket=x --over=8191", 22),
-        ("--pocket=both", 22),
-    ] {
-        let words = format!(in alloc; "{JOB} --pitch=11 {pocket}")?;
-        let (status, text) = run(alloc, words.as_str(), (TEN, ""), 65_536, (NEVER, NEVER))?;
+fn a_square_s_floor_is_milled_by_rows_columns_or_both(rt: HostRuntime) {
+    expect(&rt, rt.alloc(), "", CASES);
+    let job = "carve --drawing=d --bit=1/1 --rmax=2 --step=10 --limit=2 --pitch=11";
+    for (pocket, want) in LINES {
+        let (status, text) = plain_run(rt.alloc(), &[job, pocket], (TEN, ""));
         assert_eq!(rt;
             (status, text.as_str().lines().count()),
-            (0, want),
-            "{words}"
+            (0, *want),
+            "{pocket}"
         );
     }
-    Ok(())
 }

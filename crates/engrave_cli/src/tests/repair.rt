@@ -1,7 +1,6 @@
 // `repair`: programs whose moves that aren't clear become lifts. The expected texts follow from the rule by hand.
 
-use super::{ANGLE, expect};
-use std::test::Fail;
+use super::{ANGLE, Case, expect};
 
 const REPAIR: &str = "repair --drawing=d --code=c --bit=1/1 --rmax=200";
 
@@ -25,19 +24,6 @@ const BEYOND_REPAIRED: &str =
     G0 X3.000 Y3.000 Z2.000\nG0 X3.000 Y3.000 Z2.000\nG0 X1.000 Y3.000 Z2.000\nG1 X1.000 Y3.000 Z-0.100\n\
     G1 X1.000 Y1.000 Z-0.100\nG0 X1.000 Y1.000 Z2.000\nM2\n";
 
-#[test]
-fn a_repaired_program_is_called_clear(rt: HostRuntime) -> Result<(), Fail> {
-    for (code, repaired, verdict) in [
-        (ROUND, ROUND_REPAIRED, "clear 6 moves\n"),
-        (BEYOND, BEYOND_REPAIRED, "clear 7 moves\n"),
-        ("", EMPTY_REPAIRED, "clear 0 moves\n"),
-    ] {
-        expect(&rt, rt.alloc(), REPAIR, (ANGLE, code), (0, repaired))?;
-        expect(&rt, rt.alloc(), CHECK, (ANGLE, repaired), (0, verdict))?;
-    }
-    Ok(())
-}
-
 /// A clear plunge, a cut across the corner between its ends, a plunge into an edge, one that is too deep for the bit, one outside, a way
 /// through an edge, and a clear cut.
 const EACH_KIND: &str =
@@ -52,48 +38,44 @@ const EACH_KIND_REPAIRED: &str =
     G0 X1.000 Y1.000 Z2.000\nG0 X3.000 Y3.000 Z2.000\nG0 X3.000 Y3.000 Z2.000\nG0 X3.000 Y3.000 Z2.000\n\
     G0 X1.000 Y3.000 Z2.000\nG1 X1.000 Y3.000 Z-0.500\nG1 X1.000 Y1.000 Z-0.500\nG0 X1.000 Y1.000 Z2.000\nM2\n";
 
-#[test]
-fn each_kind_of_fault_is_mended_and_no_more_is_cut(rt: HostRuntime) -> Result<(), Fail> {
-    let cover = "cover --drawing=d --code=c --bit=1/1 --rmax=200 --pitch=50";
-    let left =
-        "uncut y 50 x 50 to 200\nuncut y 100 x 50 to 50\nuncut y 100 x 150 to 200\nuncut y 150 x 50 to 50\n\
-        uncut y 150 x 150 to 200\nuncut y 200 x 50 to 50\nuncut y 200 x 150 to 150\nuncut 12 of 33\n";
-    for (words, code, want) in [
-        (CHECK, EACH_KIND, (1, "line 4 gouge edge 2\n")),
-        (REPAIR, EACH_KIND, (0, EACH_KIND_REPAIRED)),
-        (CHECK, EACH_KIND_REPAIRED, (0, "clear 21 moves\n")),
-        (cover, EACH_KIND, (0, "uncut 0 of 33\n")),
-        (cover, EACH_KIND_REPAIRED, (0, left)),
-    ] {
-        expect(&rt, rt.alloc(), words, (ANGLE, code), want)?;
-    }
-    Ok(())
-}
+const COVER: &str = "cover --drawing=d --code=c --bit=1/1 --rmax=200 --pitch=50";
 
-#[test]
-fn a_repair_is_in_the_units_of_the_words(rt: HostRuntime) -> Result<(), Fail> {
-    let words =
-        "repair --drawing=d --code=c --bit=1/1 --rmax=200 --units=in1000 --safe=100 --feed=20";
-    let repaired =
-        "(repaired 0 of 1)\nG20\nG90\nF20\nG0 Z0.1000\nG0 X0.1000 Y0.3000\nG0 X0.1000 Y0.3000 Z0.2000\n\
-        G1 X0.1000 Y0.3000 Z-0.0005\nG0 X0.1000 Y0.3000 Z0.1000\nM2\n";
-    expect(
-        &rt,
-        rt.alloc(),
-        words,
+/// What the mended program leaves.
+const LEFT: &str =
+    "uncut y 50 x 50 to 200\nuncut y 100 x 50 to 50\nuncut y 100 x 150 to 200\nuncut y 150 x 50 to 50\n\
+    uncut y 150 x 150 to 200\nuncut y 200 x 50 to 50\nuncut y 200 x 150 to 150\nuncut 12 of 33\n";
+
+const CASES: &[Case<'static>] = &[
+    // A repaired program is called clear.
+    (REPAIR, (ANGLE, ROUND), (0, ROUND_REPAIRED)),
+    (CHECK, (ANGLE, ROUND_REPAIRED), (0, "clear 6 moves\n")),
+    (REPAIR, (ANGLE, BEYOND), (0, BEYOND_REPAIRED)),
+    (CHECK, (ANGLE, BEYOND_REPAIRED), (0, "clear 7 moves\n")),
+    (REPAIR, (ANGLE, ""), (0, EMPTY_REPAIRED)),
+    (CHECK, (ANGLE, EMPTY_REPAIRED), (0, "clear 0 moves\n")),
+    // Each kind of fault is mended, and no more is cut.
+    (CHECK, (ANGLE, EACH_KIND), (1, "line 4 gouge edge 2\n")),
+    (REPAIR, (ANGLE, EACH_KIND), (0, EACH_KIND_REPAIRED)),
+    (CHECK, (ANGLE, EACH_KIND_REPAIRED), (0, "clear 21 moves\n")),
+    (COVER, (ANGLE, EACH_KIND), (0, "uncut 0 of 33\n")),
+    (COVER, (ANGLE, EACH_KIND_REPAIRED), (0, LEFT)),
+    // A repair is in the units of the words.
+    (
+        "repair --drawing=d --code=c --bit=1/1 --rmax=200 --units=in1000 --safe=100 --feed=20",
         (ANGLE, "G20 G0 Z0.2\nG0 X.1 Y.3\nG1 Z-.0005"),
-        (0, repaired),
-    )
-}
+        (
+            0,
+            "(repaired 0 of 1)\nG20\nG90\nF20\nG0 Z0.1000\nG0 X0.1000 Y0.3000\nG0 X0.1000 Y0.3000 Z0.2000\n\
+             G1 X0.1000 Y0.3000 Z-0.0005\nG0 X0.1000 Y0.3000 Z0.1000\nM2\n",
+        ),
+    ),
+    // What the program or the drawing lacks is refused.
+    (REPAIR, ("0,0 1", ""), (3, "input loops 4 syntax\n")),
+    (REPAIR, (ANGLE, "G2 X1"), (3, "input code line 1 word\n")),
+    (REPAIR, ("0,0 1", "G2 X1"), (3, "input loops 4 syntax\n")),
+];
 
 #[test]
-fn what_the_program_or_the_drawing_lacks_is_refused(rt: HostRuntime) -> Result<(), Fail> {
-    for (drawing, code, want) in [
-        ("0,0 1", "", (3, "input loops 4 syntax\n")),
-        (ANGLE, "G2 X1", (3, "input code line 1 word\n")),
-        ("0,0 1", "G2 X1", (3, "input loops 4 syntax\n")),
-    ] {
-        expect(&rt, rt.alloc(), REPAIR, (drawing, code), want)?;
-    }
-    Ok(())
+fn each_kind_of_fault_is_mended_and_no_more_is_cut(rt: HostRuntime) {
+    expect(&rt, rt.alloc(), "", CASES);
 }
